@@ -1,0 +1,53 @@
+// The desk: what it sends back, by number, and the limits of what crosses it.
+ghost use mathlib.Core.Path.{_≡_};
+ghost use Rattle.desk.specs.Desk.{numberOf};
+
+pub const MAX_N: usize = 2048;
+
+pub const MAX_M: usize = 65536;
+
+// What a call refuses with. NoRoom has the entries that L needs, ZeroPivot the row of the pivot.
+pub enum Refusal {
+    NotReady,
+    IncompatibleDimension,
+    BadSize,
+    BadLength,
+    MalformedMatrix,
+    NotUpperTriangular,
+    EmptyColumn,
+    UnsortedColumn,
+    InvalidPermutation,
+    BadSign,
+    Spoiled,
+    BadIndex,
+    NoRoom(u32),
+    ZeroPivot(u32),
+}
+
+// What a call's list of refusals comes to.
+pub enum Verdict {
+    Accepted,
+    Refused(Refusal),
+}
+
+// The number of a refusal.
+pub fn number(refusal: Refusal) -> u8
+    ensures { λ r. ⌜ r ≡ numberOf refusal ⌝ }
+{
+    match refusal {
+        Refusal::NotReady => 1,
+        Refusal::IncompatibleDimension => 2,
+        Refusal::BadSize => 3,
+        Refusal::BadLength => 4,
+        Refusal::MalformedMatrix => 5,
+        Refusal::NotUpperTriangular => 6,
+        Refusal::EmptyColumn => 7,
+        Refusal::UnsortedColumn => 8,
+        Refusal::InvalidPermutation => 9,
+        Refusal::BadSign => 10,
+        Refusal::Spoiled => 11,
+        Refusal::BadIndex => 12,
+        Refusal::NoRoom(_) => 13,
+        Refusal::ZeroPivot(_) => 14,
+    }
+}
