@@ -1,8 +1,9 @@
 -- The few words on lists that the definitions use beside the library's. Assumes nothing.
 use Prim.Native.Nat.{ℕ, zero, suc, _+_}
-use mathlib.Core.Bool.{Bool, true, false, cond, _&&_, _||_}
+use mathlib.Core.Bool.{Bool, true, false, cond, not, _&&_, _||_}
 use mathlib.Core.List.{List, [], _∷_, _++_}
-use lib.Dec.{eqb}
+use lib.Dec.{ltb, eqb}
+use lib.ListN.{length, drop}
 
 -- the k numbers from i on
 unfoldable pub from : ℕ → ℕ → List ℕ
@@ -34,6 +35,17 @@ module _ {A : Type 0} where
   joinAll [] = []
   joinAll (l ∷ ls) = l ++ joinAll ls
 
+  -- the list is not n long; it is shorter than n
+  abbrev pub isnt : ℕ → List A → Bool
+  isnt n xs = not (eqb (length xs) n)
+
+  abbrev pub short : ℕ → List A → Bool
+  short n xs = ltb (length xs) n
+
+  -- "A longer written buffer keeps what lies past the needed part."
+  unfoldable pub over : List A → List A → List A
+  over new old = new ++ drop (length new) old
+
 -- how often v stands in the list
 unfoldable pub tally : ℕ → List ℕ → ℕ
 tally v [] = 0
@@ -43,3 +55,8 @@ tally v (x ∷ xs) = cond (eqb x v) (suc (tally v xs)) (tally v xs)
 unfoldable pub sums : ℕ → List ℕ → List ℕ
 sums s [] = s ∷ []
 sums s (x ∷ xs) = s ∷ sums (s + x) xs
+
+-- the sum of the numbers
+unfoldable pub total : List ℕ → ℕ
+total [] = 0
+total (x ∷ xs) = x + total xs

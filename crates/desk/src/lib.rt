@@ -51,3 +51,10 @@ pub fn number(refusal: Refusal) -> u8
         Refusal::ZeroPivot(_) => 14,
     }
 }
+
+// A table's number as an index.
+pub fn wide(x: u32) -> usize
+    ensures { λ r. ⌜ r ≡ x ⌝ }
+{
+    x as usize
+}

@@ -1,0 +1,3 @@
+pub mod Upto
+pub mod Tally
+pub mod Over
