@@ -1,8 +1,9 @@
 -- `csc::unsorted_column` meets its contract. The invariant: what is left of the columns has an unsorted one as all of them do.
 -- The measure is how many columns are left. Assumes nothing.
-use Prim.Native.Nat.{_-_}
+use Prim.Native.Nat.{ℕ, _-_}
 use mathlib.Core.Path.{_≡_}
-use mathlib.Core.Bool.{not}
+use mathlib.Core.Bool.{Bool, not}
+use mathlib.Core.List.{List}
 use native.Mathlib.Nat.{sub-zero}
 use borrow.Author.Needs.{needs}
 use Rattle.desk.specs.Lists.{any, from}
@@ -16,6 +17,10 @@ Inv-loop n colptr rowval c₀ c = any (λ k. not (rises (column colptr rowval k)
 
 abbrev μ-loop : tie.MeasureT-loop
 μ-loop n colptr rowval c₀ c = n - c
+
+-- a call's answer, of the part that it was lent, is the test of the column
+tested : {t b : Bool} {part rows : List ℕ} → part ≡ rows → t ≡ rises part → t ≡ b → not (rises rows) ≡ not b
+tested p e h = rw (← p, ← e, h)
 
 loop-holds : tie.Need-loop-holds Inv-loop μ-loop
 unfolding unsortedColumn
@@ -36,12 +41,12 @@ loop-less c = search needs
 loop-again : tie.Need-loop-again Inv-loop μ-loop
 loop-again c =
     let turn = c .before .before .before in
-    below-passed _ _ _ (turn .before .loop .inv) (turn .loop-test .taken) (rw (← c .before .before .column .ensures, ← c .before .rising .ensures, c .if1 .taken))
+    below-passed _ _ _ (turn .before .loop .inv) (turn .loop-test .taken) (tested (c .before .before .column .ensures) (c .before .rising .ensures) (c .if1 .taken))
 
 returns : tie.Need-returns Inv-loop μ-loop
 returns c =
     let turn = c .before .before .before in
-    below-found _ _ _ (turn .before .loop .inv) (turn .loop-test .taken) (rw (← c .before .before .column .ensures, ← c .before .rising .ensures, c .if1 .left))
+    below-found _ _ _ (turn .before .loop .inv) (turn .loop-test .taken) (tested (c .before .before .column .ensures) (c .before .rising .ensures) (c .if1 .left))
 
 returns-2 : tie.Need-returns-2 Inv-loop μ-loop
 returns-2 c = below-done _ _ _ (c .before .loop .inv) (c .loop-test .left)
