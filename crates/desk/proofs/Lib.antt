@@ -1,3 +1,4 @@
-pub mod Upto
-pub mod Tally
+pub mod Any
 pub mod Over
+pub mod Tally
+pub mod Upto

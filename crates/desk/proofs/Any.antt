@@ -1,0 +1,42 @@
+-- One turn of a search: the test at the place that the loop stands at decides, or what is left answers as before. In a list the place
+-- is an index j, and what is left `drop j l`; in the numbers below n it is c itself, and what is left `from c (n - c)`. Assumes nothing.
+use Prim.Native.Nat.{ℕ, suc, _+_, _-_, _≤_, _<_}
+use mathlib.Core.Bool.{Bool, true, false}
+use mathlib.Core.List.{List}
+use mathlib.Core.Path.{_≡_}
+use native.Mathlib.Numerals.{add-one}
+use native.Mathlib.Omega.{arith}
+use lib.ListN.{length, getD, drop, drop-of-length-le}
+use lib.Seq.{drop-cons}
+use Rattle.desk.specs.Lists.{any, from}
+
+module _ {A : Type 0} (p : A → Bool) (l : List A) (j : ℕ) {r : Bool} (left : any p (drop j l) ≡ r) where
+  module _ (d : A) (h : j < length l) where
+    pub list-found : p (getD l j d) ≡ true → true ≡ r
+    unfolding any
+    list-found e = rw (drop-cons l j d h, e) at left
+
+    pub list-passed : p (getD l j d) ≡ false → any p (drop (j + 1) l) ≡ r
+    unfolding any
+    list-passed e = rw add-one (rw (drop-cons l j d h, e) at left)
+
+  pub list-done : length l ≤ j → false ≡ r
+  unfolding any
+  list-done h = rw (drop-of-length-le l {i = j} h) at left
+
+module _ (p : ℕ → Bool) (c n : ℕ) {r : Bool} (left : any p (from c (n - c)) ≡ r) where
+  module _ (h : c < n) where
+    more : n - c ≡ suc (n - suc c)
+    more = omega arith
+
+    pub below-found : p c ≡ true → true ≡ r
+    unfolding any from
+    below-found e = rw (more, e) at left
+
+    pub below-passed : p c ≡ false → any p (from (c + 1) (n - (c + 1))) ≡ r
+    unfolding any from
+    below-passed e = rw (add-one c) (rw (more, e) at left)
+
+  pub below-done : n ≤ c → false ≡ r
+  unfolding any from
+  below-done h = let none : n - c ≡ 0 = omega arith in rw none at left
