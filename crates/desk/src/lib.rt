@@ -1,6 +1,9 @@
 // The desk: what it sends back, by number, and the limits of what crosses it.
 ghost use mathlib.Core.Path.{_≡_};
+ghost use Prim.Native.Nat.{_≤_};
+ghost use lib.ListN.{length, replicate};
 ghost use Rattle.desk.specs.Desk.{numberOf};
+ghost use Rattle.desk.specs.Lists.{over};
 
 pub const MAX_N: usize = 2048;
 
@@ -57,4 +60,16 @@ pub fn wide(x: u32) -> usize
     ensures { λ r. ⌜ r ≡ x ⌝ }
 {
     x as usize
+}
+
+// Writes v to the first n places of a table.
+pub fn fill(xs: &mut [u32], n: usize, v: u32)
+    requires { ⌜ n ≤ length (now xs) ⌝ }
+    ensures { λ _. ⌜ now (xs .exit) ≡ over (replicate n v) (now (xs .entry)) ⌝ }
+{
+    let mut i: usize = 0;
+    while i < n {
+        xs[i] = v;
+        i += 1;
+    }
 }
