@@ -5,8 +5,8 @@ use mathlib.Core.List.{List, [], _∷_, _++_}
 use native.Mathlib.Nat.{zero-add}
 use native.Mathlib.Numerals.{add-one}
 use native.Mathlib.Omega.{arith}
-use lib.ListN.{length, getD, take, drop, set, length-append, length-drop}
-use lib.Seq.{paste-suc, take-length, length-take-le}
+use lib.ListN.{length, getD, take, drop, set, replicate, length-append, length-replicate, length-drop, List·getD-append}
+use lib.Seq.{paste-suc, take-length, length-take-le, drop-append-seam}
 use Rattle.desk.specs.Lists.{over}
 
 module _ {A : Type 0} (y x : List A) where
@@ -22,3 +22,19 @@ module _ {A : Type 0} (y x : List A) where
   pub front-all : (i : ℕ) → i ≡ length y → front i ≡ over y x
   unfolding over
   front-all i e = rw (e, take-length)
+
+-- what is written over a front just as long
+pub over-over : {A : Type 0} (y z x : List A) → length y ≡ length z → over y (over z x) ≡ over y x
+unfolding over
+over-over y z x e = rw (e, drop-append-seam z (drop (length z) x))
+
+pub length-over : {A : Type 0} (y x : List A) → length y ≤ length x → length (over y x) ≡ length x
+unfolding over
+length-over y x h = length-append y (drop (length y) x) ∙ omega (arith, length-drop (length y) x)
+
+pub getD-over : {A : Type 0} (y x : List A) (i : ℕ) (d : A) → i < length y → getD (over y x) i d ≡ getD y i d
+unfolding over
+getD-over y x i d h = List·getD-append y (drop (length y) x) d i h
+
+pub length-filled : {A : Type 0} (n : ℕ) (v : A) (x : List A) → n ≤ length x → length (over (replicate n v) x) ≡ length x
+length-filled n v x h = length-over (replicate n v) x (omega (arith, length-replicate n v))

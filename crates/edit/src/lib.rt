@@ -1,0 +1,1 @@
+// The edits of the permuted values through the map.

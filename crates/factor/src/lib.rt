@@ -1,0 +1,1 @@
+// The factor: all rows, numeric and logical, and the test of the tables that it reads.

@@ -1,0 +1,5 @@
+pub mod Calls
+pub mod Analysis
+pub mod Factoring
+pub mod Solving
+pub mod Figures

@@ -1,0 +1,1 @@
+// The triangular solves, and the test of L.
