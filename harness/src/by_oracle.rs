@@ -14,13 +14,7 @@ fn narrow(table: &[usize]) -> Vec<u32> {
 /// `new` of the original for this case.
 pub fn new(case: &Case) -> Result<QDLDLFactorisation, QDLDLError> {
     let n = case.n();
-    let A = CscMatrix {
-        m: n,
-        n,
-        colptr: wide(&case.colptr),
-        rowval: wide(&case.rowval),
-        nzval: case.nzval.clone(),
-    };
+    let A = CscMatrix { m: n, n, colptr: wide(&case.colptr), rowval: wide(&case.rowval), nzval: case.nzval.clone() };
     let mut opts = QDLDLSettings {
         perm: Some(wide(&case.perm)),
         logical: case.logical,

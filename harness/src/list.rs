@@ -1,7 +1,8 @@
 //! The fixed list of cases behind vectors.txt.
-use crate::case::{Case, Edit};
+use crate::case::{Answer, Case, Edit};
 use crate::random::{edits, matrix, settings, signs, Values};
 use crate::rng::{Rng, SPECIAL};
+use crate::text;
 
 const HEAD: &str = "\
 # Cases and the answers of qdldl.rs (clarabel 0.11.1); made by `cargo run --release --offline -- vectors` in harness/.
@@ -23,18 +24,11 @@ const HEAD: &str = "\
 # crate shows the old one.
 ";
 
-/// The whole text of vectors.txt.
-#[cfg(qdldl)]
-pub fn vectors() -> String {
-    use crate::{by_oracle, text};
+/// The whole text of vectors.txt, by whoever answers.
+pub fn vectors(answer: impl Fn(&Case) -> Answer) -> String {
     let cases = cases();
-    let mut out = format!("{HEAD}vectors 1 {}\n", cases.len());
-    for case in &cases {
-        let answer = by_oracle::answer(case).unwrap_or_else(|e| panic!("{e:?}: {case:?}"));
-        out += &text::of_case(case);
-        out += &text::of_answer(&answer);
-    }
-    out
+    let text: Vec<String> = cases.iter().map(|case| text::of_case(case) + &text::of_answer(&answer(case))).collect();
+    format!("{HEAD}vectors 1 {}\n{}", cases.len(), text.concat())
 }
 
 pub fn cases() -> Vec<Case> {
@@ -139,7 +133,9 @@ fn edges(rng: &mut Rng) -> Vec<Case> {
     for x in SPECIAL {
         let y = rng.special();
         cases.push(two(x, 1.0, 2.0).b(&[1.0, y]).seen());
-        cases.push(full().perm(&rng.ordering(3)).edits(&[Edit::Update { indices: vec![3], values: vec![x] }]).refactor());
+        cases.push(
+            full().perm(&rng.ordering(3)).edits(&[Edit::Update { indices: vec![3], values: vec![x] }]).refactor(),
+        );
     }
     cases
 }

@@ -2,9 +2,7 @@
 use std::fmt::Debug;
 use std::ops::{AddAssign, Mul, MulAssign, SubAssign};
 
-pub trait FloatT:
-    Copy + Debug + PartialOrd + Mul<Output = Self> + AddAssign + SubAssign + MulAssign
-{
+pub trait FloatT: Copy + Debug + PartialOrd + Mul<Output = Self> + AddAssign + SubAssign + MulAssign {
     fn zero() -> Self;
     fn one() -> Self;
     fn is_zero(&self) -> bool;

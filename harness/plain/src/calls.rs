@@ -167,13 +167,7 @@ pub fn factor(
 }
 
 /// The solve, in place of the right side.
-pub fn solve(
-    status: &Status,
-    perm: &[u32],
-    F: &Factors,
-    b: &mut [f64],
-    scratch: &Scratch,
-) -> Result<(), Refusal> {
+pub fn solve(status: &Status, perm: &[u32], F: &Factors, b: &mut [f64], scratch: &Scratch) -> Result<(), Refusal> {
     refusal::solve(status, perm, F, b, scratch)?;
     crate::solve::solve(perm, &F.Lp, &F.Li, &F.Lx, &F.Dinv, b);
     Ok(())

@@ -2,6 +2,7 @@
 //!
 //! `calls` has the calls with status and lent tables; the other modules are what they are made of, over slices.
 #![allow(non_snake_case)]
+#![allow(clippy::assign_op_pattern, clippy::needless_range_loop)] // 01's formulas stand as it writes them
 
 pub mod calls;
 pub mod edit;

@@ -58,7 +58,11 @@ impl Refusal {
 type Verdict = Result<(), Refusal>;
 
 fn refuse(refusal: Refusal, when: bool) -> Verdict {
-    if when { Err(refusal) } else { Ok(()) }
+    if when {
+        Err(refusal)
+    } else {
+        Ok(())
+    }
 }
 
 /// "Analysis uses 2 to 10"; "6 to 8 are considered only where 5 doesn't hold".
@@ -66,10 +70,8 @@ pub fn analysis(A: &Matrix, perm: &[u32], Dsigns: &[i8], out: &Analysis, scratch
     let (n, m) = (A.columns, A.rowval.len());
     refuse(IncompatibleDimension, A.rows != A.columns)?;
     refuse(BadSize, !(1..=MAX_N).contains(&n) || m > MAX_M)?;
-    let read = A.colptr.len() == n + 1
-        && A.nzval.len() == m
-        && perm.len() == n
-        && (Dsigns.is_empty() || Dsigns.len() == n);
+    let read =
+        A.colptr.len() == n + 1 && A.nzval.len() == m && perm.len() == n && (Dsigns.is_empty() || Dsigns.len() == n);
     refuse(BadLength, !read || !out.fits(n, m) || scratch.words.iter().any(|&len| len < n))?;
     refuse(MalformedMatrix, !pointers_hold(&A.colptr, m) || A.rowval.iter().any(|&r| r as usize >= n))?;
     refuse(NotUpperTriangular, !is_triu(&A.colptr, &A.rowval))?;

@@ -8,6 +8,11 @@ pub struct Control {
 
 type Ordering = (Vec<usize>, Vec<usize>, Info);
 
-pub fn order(_n: usize, _colptr: &[usize], _rowval: &[usize], _control: &Control) -> Result<Ordering, ()> {
+pub fn order(
+    _n: usize,
+    _colptr: &[usize],
+    _rowval: &[usize],
+    _control: &Control,
+) -> Result<Ordering, std::convert::Infallible> {
     unreachable!("the harness passes an ordering")
 }
