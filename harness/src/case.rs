@@ -58,8 +58,8 @@ impl Case {
         self.on(1e-12, 1e-7)
     }
 
-    pub fn edits(mut self, edits: &[Edit]) -> Case {
-        self.edits = edits.to_vec();
+    pub fn edits(mut self, edits: impl Into<Vec<Edit>>) -> Case {
+        self.edits = edits.into();
         self
     }
 

@@ -133,9 +133,8 @@ fn edges(rng: &mut Rng) -> Vec<Case> {
     for x in SPECIAL {
         let y = rng.special();
         cases.push(two(x, 1.0, 2.0).b(&[1.0, y]).seen());
-        cases.push(
-            full().perm(&rng.ordering(3)).edits(&[Edit::Update { indices: vec![3], values: vec![x] }]).refactor(),
-        );
+        cases
+            .push(full().perm(&rng.ordering(3)).edits([Edit::Update { indices: vec![3], values: vec![x] }]).refactor());
     }
     cases
 }
@@ -148,19 +147,19 @@ fn edited(rng: &mut Rng) -> Vec<Case> {
     let offset = Edit::Offset { indices: vec![0, 1, 2, 3, 4, 2, 2], offset: 0.1, signs };
     let nothing = Edit::Scale { indices: vec![], scale: 2.0 };
     let mut cases = vec![
-        arrow().edits(&[update.clone()]).refactor(),
-        arrow().edits(&[update.clone()]),
-        arrow().edits(&[scale.clone()]).refactor(),
-        arrow().edits(&[offset.clone()]).refactor(),
-        arrow().edits(&[offset.clone()]).logical(),
-        arrow().edits(&[nothing]).refactor(),
-        arrow().perm(&[2, 1, 0]).edits(&[update.clone(), scale.clone(), offset.clone()]).refactor(),
-        arrow().perm(&[1, 2, 0]).edits(&[offset, update, scale]).seen(),
+        arrow().edits([update.clone()]).refactor(),
+        arrow().edits([update.clone()]),
+        arrow().edits([scale.clone()]).refactor(),
+        arrow().edits([offset.clone()]).refactor(),
+        arrow().edits([offset.clone()]).logical(),
+        arrow().edits([nothing]).refactor(),
+        arrow().perm(&[2, 1, 0]).edits([update.clone(), scale.clone(), offset.clone()]).refactor(),
+        arrow().perm(&[1, 2, 0]).edits([offset, update, scale]).seen(),
     ];
     for n in 4..12 {
         let case = matrix(rng, n, 3, Values::Heavy);
         let edits = edits(rng, case.rowval.len(), Values::Heavy);
-        cases.push(case.edits(&edits).refactor());
+        cases.push(case.edits(edits).refactor());
     }
     cases
 }
@@ -172,13 +171,13 @@ fn zeros() -> Vec<Case> {
     for value in [0.0, -0.0] {
         for index in [0, 2, 4] {
             let diagonal = Case::new(&[0, 1, 3, 5], &[0, 0, 1, 0, 2], &[2.0, 0.0, 3.0, 0.0, 5.0]);
-            cases.push(diagonal.edits(&[zero(index, value)]).refactor());
+            cases.push(diagonal.edits([zero(index, value)]).refactor());
         }
     }
     let square = |nzval| Case::new(&[0, 1, 3, 6], &[0, 0, 1, 0, 1, 2], nzval);
     cases.push(square(&[4.0, 2.0, 1.0, 1.0, 3.0, 9.0]).seen()); // 1 - 2*2/4 at row 1
     cases.push(square(&[4.0, 2.0, 5.0, 2.0, 3.0, 2.0]).seen()); // 2 - 2*2/4 - 2*2/4 at row 2
-    cases.push(square(&[4.0, 2.0, 5.0, 2.0, 3.0, 3.0]).edits(&[zero(5, 2.0)]).refactor());
+    cases.push(square(&[4.0, 2.0, 5.0, 2.0, 3.0, 3.0]).edits([zero(5, 2.0)]).refactor());
     cases.push(square(&[1.0; 6]).on(0.0, 0.5).seen()); // zeros are not below an eps of 0
     cases
 }
