@@ -1,6 +1,8 @@
 //! Cases for both readings of QDLDL, the original's and document 01's, and the text in which their answers are kept.
 #![allow(non_snake_case)]
 
+use std::io::Write;
+
 pub mod by_plain;
 pub mod case;
 pub mod list;
@@ -11,8 +13,8 @@ pub mod text;
 #[cfg(qdldl)]
 pub mod by_oracle;
 
-/// Says, past the capture of a test's output, what was left out because the original is not there.
+/// Says what was left out because the original is not there; past the capture of a test's output, so that it is seen.
 pub fn skip(count: usize, what: &str) {
-    use std::io::Write;
-    writeln!(std::io::stderr(), "skipped: {count} {what}, since ../shared is not beside the repository").unwrap();
+    let line = format!("skipped: {count} {what}, since ../shared is not beside the repository\n");
+    std::io::stderr().write_all(line.as_bytes()).unwrap();
 }

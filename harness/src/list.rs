@@ -5,7 +5,8 @@ use crate::rng::{Rng, SPECIAL};
 use crate::text;
 
 const HEAD: &str = "\
-# Cases and the answers of qdldl.rs (clarabel 0.11.1); made by `cargo run --release --offline -- vectors` in harness/.
+# Cases and the answers of qdldl.rs (clarabel 0.11.1); made by `cargo run --release --offline -- vectors` in harness/,
+# the random ones by a generator of its own with a fixed seed.
 # A line is a keyword, a count, and that many numbers: whole ones in decimal, f64 as the 16 hex digits of its bits, any NaN
 # as 7ff8000000000000. First the number of vectors. A vector is always the lines below, in this order.
 #   n colptr rowval nzval perm   the upper triangle and the ordering
@@ -85,9 +86,10 @@ fn orders() -> Vec<Case> {
         cases.push(arrow().perm(perm).signs(&[1, 0, -1]).on(-10.0, 1.0));
         cases.push(full().perm(perm).b(&[0.1, 0.2, 0.3]));
     }
-    for (i, perm) in (1..4).flat_map(|a| (1..8).map(move |b| (a, b))).zip(three_orders.iter().cycle()) {
-        let second: Vec<u32> = (0..2).filter(|r| i.0 >> r & 1 == 1).collect();
-        let third: Vec<u32> = (0..3).filter(|r| i.1 >> r & 1 == 1).collect();
+    let patterns = (1..4).flat_map(|second| (1..8).map(move |third| (second, third)));
+    for ((second, third), perm) in patterns.zip(three_orders.iter().cycle()) {
+        let second: Vec<u32> = (0..2).filter(|r| second >> r & 1 == 1).collect();
+        let third: Vec<u32> = (0..3).filter(|r| third >> r & 1 == 1).collect();
         let rowval = [vec![0], second.clone(), third].concat();
         let colptr = [0, 1, 1 + second.len() as u32, rowval.len() as u32];
         let nzval: Vec<f64> = (0..rowval.len()).map(|p| 2.0 + p as f64).collect();
@@ -131,10 +133,9 @@ fn pivots() -> Vec<Case> {
 fn edges(rng: &mut Rng) -> Vec<Case> {
     let mut cases = vec![];
     for x in SPECIAL {
-        let y = rng.special();
-        cases.push(two(x, 1.0, 2.0).b(&[1.0, y]).seen());
-        cases
-            .push(full().perm(&rng.ordering(3)).edits([Edit::Update { indices: vec![3], values: vec![x] }]).refactor());
+        cases.push(two(x, 1.0, 2.0).b(&[1.0, rng.special()]).seen());
+        let edit = Edit::Update { indices: vec![3], values: vec![x] };
+        cases.push(full().perm(&rng.ordering(3)).edits([edit]).refactor());
     }
     cases
 }

@@ -80,3 +80,20 @@ fn edit(rng: &mut Rng, m: usize, values: Values) -> Edit {
         }
     }
 }
+
+/// Any case of order n: signs, settings, a logical or numeric first factor, edits and a refactor, or none of these.
+pub fn case(rng: &mut Rng, n: usize) -> Case {
+    let sparse = 1 + rng.below(5);
+    let values = rng.pick(&[Values::Heavy, Values::Halves, Values::Edges]);
+    let mut case = matrix(rng, n, sparse, values);
+    if rng.once_in(2) {
+        case.Dsigns = signs(rng, n);
+    }
+    case = settings(rng, case);
+    case.logical = rng.once_in(2);
+    if rng.once_in(2) {
+        case.edits = edits(rng, case.rowval.len(), values);
+    }
+    case.refactor = rng.once_in(2);
+    case
+}

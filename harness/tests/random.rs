@@ -1,45 +1,28 @@
-//! The original against document 01's reading, on random small matrices by a fixed seed.
+//! The original against document 01's reading, on random matrices by fixed seeds.
 #![allow(non_snake_case)]
 
-const CASES: usize = 6_000;
+const SMALL: usize = 6_000;
+const LARGER: usize = 300;
+const UNSORTED: usize = 6_000;
 
 #[cfg(not(qdldl))]
 #[test]
 fn skipped() {
-    harness::skip(2 * CASES, "random matrices");
+    harness::skip(SMALL + LARGER + UNSORTED, "random matrices");
 }
 
 #[cfg(qdldl)]
 mod compared {
-    use super::CASES;
-    use harness::random::{edits, matrix, settings, signs, Values};
-    use harness::{by_oracle, by_plain, case::Case, rng::Rng, text};
+    use super::*;
+    use harness::{by_oracle, by_plain, case::Case, random, rng::Rng, text};
     use oracle::qdldl::QDLDLError;
 
-    fn any(rng: &mut Rng) -> Case {
-        let n = 1 + rng.below(12);
-        let sparse = 1 + rng.below(5);
-        let values = rng.pick(&[Values::Heavy, Values::Halves, Values::Edges]);
-        let mut case = matrix(rng, n, sparse, values);
-        if rng.once_in(2) {
-            case.Dsigns = signs(rng, n);
-        }
-        case = settings(rng, case);
-        case.logical = rng.once_in(2);
-        if rng.once_in(2) {
-            case.edits = edits(rng, case.rowval.len(), values);
-        }
-        case.refactor = rng.once_in(2);
-        case
-    }
-
     /// Every table, count and solution, or the same zero pivot.
-    #[test]
-    fn whole_cases_agree() {
-        let mut rng = Rng(1);
+    fn compare(rng: &mut Rng, cases: usize, order: fn(&mut Rng) -> usize) {
         let (mut zeros, mut unseen, mut solved) = (0, 0, 0);
-        for i in 0..CASES {
-            let mut case = any(&mut rng);
+        for i in 0..cases {
+            let n = order(rng);
+            let mut case = random::case(rng, n);
             let mut theirs = by_oracle::answer(&case);
             if let Err(QDLDLError::ZeroPivot) = theirs {
                 unseen += 1;
@@ -53,7 +36,17 @@ mod compared {
             zeros += usize::from(ours.zero.is_some());
             solved += usize::from(!ours.x.is_empty());
         }
-        assert!(zeros > CASES / 20 && unseen > CASES / 50 && solved > CASES / 3, "{zeros} {unseen} {solved}");
+        assert!(zeros > cases / 20 && unseen > cases / 50 && solved > cases / 3, "{zeros} {unseen} {solved}");
+    }
+
+    #[test]
+    fn small_cases_agree() {
+        compare(&mut Rng(1), SMALL, |rng| 1 + rng.below(12));
+    }
+
+    #[test]
+    fn larger_cases_agree() {
+        compare(&mut Rng(3), LARGER, |rng| 13 + rng.below(60));
     }
 
     /// Columns unsorted and with repeats, which the crate takes and 01 refuses 8, are still the same to the factor.
@@ -61,7 +54,7 @@ mod compared {
     fn unsorted_and_repeated_rows_agree() {
         let mut rng = Rng(2);
         let mut refused = 0;
-        for i in 0..CASES {
+        for i in 0..UNSORTED {
             let n = 1 + rng.below(8);
             let (mut colptr, mut rowval, mut nzval) = (vec![0], vec![], vec![]);
             for c in 0..n {
@@ -72,7 +65,7 @@ mod compared {
                 colptr.push(rowval.len() as u32);
             }
             let perm = rng.ordering(n);
-            let case = settings(&mut rng, Case::new(&colptr, &rowval, &nzval).perm(&perm).seen());
+            let case = random::settings(&mut rng, Case::new(&colptr, &rowval, &nzval).perm(&perm).seen());
             let theirs = by_oracle::answer(&case).unwrap();
 
             refused += usize::from(by_plain::analysed(&case).is_err());
@@ -92,6 +85,6 @@ mod compared {
             let ours = by_plain::answer_from(&case, status, plain::Analysis { A, AtoPAPt: new.AtoPAPt });
             assert_eq!(text::of_answer(&theirs), text::of_answer(&ours), "case {i}: {case:?}");
         }
-        assert!(refused > CASES / 2, "{refused}");
+        assert!(refused > UNSORTED / 2, "{refused}");
     }
 }
