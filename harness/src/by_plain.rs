@@ -109,8 +109,8 @@ pub fn answer_from(case: &Case, status: Status, mut tables: Analysis) -> Answer 
         Lx: F.Lx,
         D: F.D,
         Dinv: F.Dinv,
-        inertia: status.inertia as u32,
-        shifts: status.shifts as u32,
+        inertia: status.positive_inertia() as u32,
+        shifts: status.regularize_count() as u32,
         x,
     }
 }

@@ -21,7 +21,28 @@ pub struct Status {
     pub shifts: usize,
 }
 
-pub const EMPTY: Status = Status { kind: Kind::Empty, n: 0, m: 0, nnzL: 0, inertia: 0, shifts: 0 };
+/// "On Empty the four read-outs are 0; else nnzA is the status's m and nnzL its length of L."
+impl Status {
+    fn read_out(&self, field: usize) -> usize {
+        if self.kind == Kind::Empty {
+            0
+        } else {
+            field
+        }
+    }
+    pub fn positive_inertia(&self) -> usize {
+        self.read_out(self.inertia)
+    }
+    pub fn regularize_count(&self) -> usize {
+        self.read_out(self.shifts)
+    }
+    pub fn nnzA(&self) -> usize {
+        self.read_out(self.m)
+    }
+    pub fn nnzL(&self) -> usize {
+        self.read_out(self.nnzL)
+    }
+}
 
 /// "A matrix is its upper triangle by columns".
 #[derive(Clone, Debug, Default)]
