@@ -1,0 +1,20 @@
+//! Cases for both readings of QDLDL, the original's and document 01's, and the text in which their answers are kept.
+#![allow(non_snake_case)]
+
+use std::io::Write;
+
+pub mod by_plain;
+pub mod case;
+pub mod list;
+pub mod random;
+pub mod rng;
+pub mod text;
+
+#[cfg(qdldl)]
+pub mod by_oracle;
+
+/// Says what was left out because the original is not there; past the capture of a test's output, so that it is seen.
+pub fn skip(count: usize, what: &str) {
+    let line = format!("skipped: {count} {what}, since ../shared is not beside the repository\n");
+    std::io::stderr().write_all(line.as_bytes()).unwrap();
+}
