@@ -1,4 +1,5 @@
 pub mod Any
 pub mod Over
+pub mod ReadBack
 pub mod Tally
 pub mod Upto

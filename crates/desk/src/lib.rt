@@ -2,8 +2,8 @@
 ghost use mathlib.Core.Path.{_≡_};
 ghost use Prim.Native.Nat.{_≤_};
 ghost use lib.ListN.{length, replicate};
-ghost use Rattle.desk.specs.Desk.{numberOf};
-ghost use Rattle.desk.specs.Lists.{over};
+ghost use Rattle.desk.specs.Desk.{numberOf, badSize, badSign};
+ghost use Rattle.desk.specs.Lists.{any, over};
 
 pub const MAX_N: usize = 2048;
 
@@ -53,6 +53,44 @@ pub fn number(refusal: Refusal) -> u8
         Refusal::NoRoom(_) => 13,
         Refusal::ZeroPivot(_) => 14,
     }
+}
+
+// Refusal 3, BadSize, in the analysis.
+pub fn bad_size(n: usize, m: usize) -> bool
+    ensures { λ r. ⌜ r ≡ badSize n m ⌝ }
+{
+    if n == 0 {
+        return true;
+    }
+    if MAX_N < n {
+        return true;
+    }
+    MAX_M < m
+}
+
+// Whether a sign is outside -1, 0, 1.
+pub fn bad_sign(sign: i8) -> bool
+    ensures { λ r. ⌜ r ≡ badSign sign ⌝ }
+{
+    match sign {
+        -1..=1 => false,
+        _ => true,
+    }
+}
+
+// Refusal 10, BadSign.
+pub fn bad_signs(signs: &[i8]) -> bool
+    ensures { λ r. ⌜ r ≡ any badSign (now (signs .entry)) ⌝ }
+{
+    let mut i: usize = 0;
+    while i < signs.len() {
+        let sign = signs[i];
+        if bad_sign(sign) {
+            return true;
+        }
+        i += 1;
+    }
+    false
 }
 
 // A table's number as an index.
