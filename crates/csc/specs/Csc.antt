@@ -14,6 +14,9 @@ pub record Csc : Type 0 where
   pub rowval : List ℕ
   pub nzval : List Float
 
+abbrev pub matrix : List ℕ → List ℕ → List Float → Csc
+matrix colptr rowval nzval = record { colptr = colptr; rowval = rowval; nzval = nzval }
+
 -- "the rows of one column as a part of the lent row list, by pointers and column; the part is empty where the column has no next
 -- pointer, its two pointers fall, or the later one passes the list's end" (and likewise its values)
 unfoldable pub column : {A : Type 0} → List ℕ → List A → ℕ → List A

@@ -1,4 +1,6 @@
 pub mod Any
+pub mod Both
+pub mod First
 pub mod Over
 pub mod ReadBack
 pub mod Tally

@@ -1,18 +1,14 @@
 -- Laws of the numbers in a row: their length, what stands at a place of a list made of them, and what is tested of each. Assumes nothing.
 use Prim.Native.Nat.{ℕ, zero, suc, _+_, _<_, _≤_}
 use mathlib.Core.Path.{_≡_, refl, ap, subst, _∙_}
-use mathlib.Core.Bool.{Bool, true, false, _&&_, false≢true}
+use mathlib.Core.Bool.{Bool, true, false}
 use mathlib.Core.List.{List, map}
 use native.Mathlib.Nat.{zero-add}
 use native.Mathlib.Decide.{ℕ-discrete}
 use native.Mathlib.Omega.{arith}
 use lib.ListN.{length, getD, length-map}
 use Rattle.desk.specs.Lists.{from, upto, all}
-
--- both tests hold where their conjunction does
-pub both : (x y : Bool) → (x && y) ≡ true → (x ≡ true) × (y ≡ true)
-both true y h = (refl, h)
-both false y h = absurd (false≢true h)
+use Rattle.desk.proofs.Both.{both}
 
 pub length-from : (i k : ℕ) → length (from i k) ≡ k
 unfolding from

@@ -1,9 +1,10 @@
 // The desk: what it sends back, by number, and the limits of what crosses it.
 ghost use mathlib.Core.Path.{_≡_};
 ghost use Prim.Native.Nat.{_≤_};
+ghost use mathlib.Core.List.{[], _∷_};
 ghost use lib.ListN.{length, replicate};
 ghost use Rattle.desk.specs.Desk.{numberOf, badSize, badSign};
-ghost use Rattle.desk.specs.Lists.{any, over};
+ghost use Rattle.desk.specs.Lists.{any, short, over};
 
 pub const MAX_N: usize = 2048;
 
@@ -59,13 +60,7 @@ pub fn number(refusal: Refusal) -> u8
 pub fn bad_size(n: usize, m: usize) -> bool
     ensures { λ r. ⌜ r ≡ badSize n m ⌝ }
 {
-    if n == 0 {
-        return true;
-    }
-    if MAX_N < n {
-        return true;
-    }
-    MAX_M < m
+    (n == 0) | (MAX_N < n) | (MAX_M < m)
 }
 
 // Whether a sign is outside -1, 0, 1.
@@ -91,6 +86,13 @@ pub fn bad_signs(signs: &[i8]) -> bool
         i += 1;
     }
     false
+}
+
+// Whether one of the three parts of u32 scratch is shorter than n.
+pub fn short_scratch(n: usize, a: &[u32], b: &[u32], c: &[u32]) -> bool
+    ensures { λ r. ⌜ r ≡ any (short n) (now (a .entry) ∷ now (b .entry) ∷ now (c .entry) ∷ []) ⌝ }
+{
+    (a.len() < n) | (b.len() < n) | (c.len() < n)
 }
 
 // A table's number as an index.

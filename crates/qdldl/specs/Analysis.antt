@@ -25,6 +25,9 @@ pub record Written : Type 0 where
   pub lnz : List ℕ
   pub dsigns : List ℤ
 
+abbrev pub written : Csc → List ℕ → List ℕ → List ℕ → List ℤ → Written
+written P map etree lnz dsigns = record { P = P; map = map; etree = etree; lnz = lnz; dsigns = dsigns }
+
 -- "row count, column count n, n+1 column pointers, then rows and values"; ordering; signs; the written tables; "scratch, 3n u32"
 pub record AnalysisLent : Type 0 where
   pub nrows : ℕ
@@ -34,6 +37,10 @@ pub record AnalysisLent : Type 0 where
   pub signs : List ℤ
   pub out : Written
   pub iwork : List (List ℕ)
+
+abbrev pub analysisLent : ℕ → ℕ → Csc → List ℕ → List ℤ → Written → List (List ℕ) → AnalysisLent
+analysisLent nrows n A perm signs out iwork =
+    record { nrows = nrows; n = n; A = A; perm = perm; signs = signs; out = out; iwork = iwork }
 
 -- "m is the length of the rows"
 abbrev pub entriesOf : AnalysisLent → ℕ

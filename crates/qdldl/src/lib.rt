@@ -1,5 +1,12 @@
-// The status and the answers of the public calls.
+// The status and the public calls.
+ghost use mathlib.Core.Path.{_≡_};
+ghost use mathlib.Core.List.{[], _∷_};
+ghost use Prim.Native.Nat.{_≤_};
+ghost use Rattle.csc.specs.Csc.{matrix};
+ghost use Rattle.qdldl.specs.Steps.{Judged};
+ghost use Rattle.qdldl.specs.Analysis.{written, analysisLent, badLengths};
 use desk::Refusal;
+use desk::Verdict;
 
 pub enum Phase {
     Empty,
@@ -23,4 +30,110 @@ pub struct Status {
 pub enum Answer {
     Done(Status),
     Refused(Refusal, Status),
+}
+
+// Refusal 4, BadLength, in the analysis.
+fn bad_lengths(
+    n: usize,
+    colptr: &[u32],
+    rowval: &[u32],
+    nzval: &[f64],
+    perm: &[u32],
+    signs: &[i8],
+    pc: &[u32],
+    pr: &[u32],
+    pv: &[f64],
+    map: &[u32],
+    etree: &[u32],
+    lnz: &[u32],
+    dsigns: &[i8],
+    iperm: &[u32],
+    next: &[u32],
+    work: &[u32],
+) -> bool
+    requires { ⌜ n ≤ 2048 ⌝ }
+    ensures { λ r. ⌜ r ≡ badLengths (analysisLent 0 n (matrix (now (colptr .entry)) (now (rowval .entry)) (now (nzval .entry))) (now (perm .entry)) (now (signs .entry)) (written (matrix (now (pc .entry)) (now (pr .entry)) (now (pv .entry))) (now (map .entry)) (now (etree .entry)) (now (lnz .entry)) (now (dsigns .entry))) (now (iperm .entry) ∷ now (next .entry) ∷ now (work .entry) ∷ [])) ⌝ }
+{
+    let m = rowval.len();
+    (colptr.len() != n + 1)
+        | (nzval.len() != m)
+        | (perm.len() != n)
+        | (signs.len() != 0) & (signs.len() != n)
+        | (pc.len() < n + 1)
+        | (pr.len() < m)
+        | (pv.len() < m)
+        | (map.len() < m)
+        | (etree.len() < n)
+        | (lnz.len() < n)
+        | (dsigns.len() < n)
+        | desk::short_scratch(n, iperm, next, work)
+}
+
+// The analysis's refusals in their order. Where none applies the front of iperm is the inverse ordering.
+fn judge(
+    nrows: usize,
+    n: usize,
+    colptr: &[u32],
+    rowval: &[u32],
+    nzval: &[f64],
+    perm: &[u32],
+    signs: &[i8],
+    pc: &[u32],
+    pr: &[u32],
+    pv: &[f64],
+    map: &[u32],
+    etree: &[u32],
+    lnz: &[u32],
+    dsigns: &[i8],
+    iperm: &mut [u32],
+    next: &[u32],
+    work: &[u32],
+) -> Verdict
+    ensures { λ r. ⌜ Judged (analysisLent nrows n (matrix (now (colptr .entry)) (now (rowval .entry)) (now (nzval .entry))) (now (perm .entry)) (now (signs .entry)) (written (matrix (now (pc .entry)) (now (pr .entry)) (now (pv .entry))) (now (map .entry)) (now (etree .entry)) (now (lnz .entry)) (now (dsigns .entry))) (now (iperm .entry) ∷ now (next .entry) ∷ now (work .entry) ∷ [])) r (now (iperm .entry)) (now (iperm .exit)) ⌝ }
+{
+    if nrows != n {
+        return Verdict::Refused(Refusal::IncompatibleDimension);
+    }
+    if desk::bad_size(n, rowval.len()) {
+        return Verdict::Refused(Refusal::BadSize);
+    }
+    if bad_lengths(
+        n,
+        colptr,
+        rowval,
+        nzval,
+        perm,
+        signs,
+        pc,
+        pr,
+        pv,
+        map,
+        etree,
+        lnz,
+        dsigns,
+        &iperm[..],
+        next,
+        work,
+    ) {
+        return Verdict::Refused(Refusal::BadLength);
+    }
+    if csc::malformed_matrix(n, colptr, rowval) {
+        return Verdict::Refused(Refusal::MalformedMatrix);
+    }
+    if csc::not_upper_triangular(n, colptr, rowval) {
+        return Verdict::Refused(Refusal::NotUpperTriangular);
+    }
+    if csc::empty_column(n, colptr, rowval) {
+        return Verdict::Refused(Refusal::EmptyColumn);
+    }
+    if csc::unsorted_column(n, colptr, rowval) {
+        return Verdict::Refused(Refusal::UnsortedColumn);
+    }
+    if order::invperm(perm, &mut *iperm) {
+        if desk::bad_signs(signs) {
+            return Verdict::Refused(Refusal::BadSign);
+        }
+        return Verdict::Accepted;
+    }
+    Verdict::Refused(Refusal::InvalidPermutation)
 }
