@@ -1,0 +1,5 @@
+pub mod Formed
+pub mod Gather
+pub mod Starts
+pub mod Steps
+pub mod Turns
