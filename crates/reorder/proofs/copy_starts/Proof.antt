@@ -1,0 +1,72 @@
+use borrow.Author.Needs.{needs}
+use Prim.Native.Nat.{ℕ, _≤_, _<_, _-_, _+_}
+use mathlib.Core.Path.{_≡_, refl, sym, ap, _∙_}
+use lib.ListN.{length, take, getD}
+use Rattle.desk.proofs.Over.{front, front-more, front-length, front-all}
+use Rattle.reorder.proofs.copy_starts.Statement.{statement}
+use Rattle.reorder.proofs.copy_starts.Tie as tie
+use Rattle.reorder.proofs.copy_starts.Reads as reads
+use Rattle.reorder.proofs.copy_starts.Lts as lts
+
+abbrev Inv-loop : tie.InvT-loop
+Inv-loop pc n next₀ c₀ next c = (c ≤ n) × (next ≡ front (take n pc) next₀ c)
+
+abbrev μ-loop : tie.MeasureT-loop
+μ-loop pc n next₀ c₀ next c = n - c
+
+-- src/lib.rt:76:5
+loop-holds : tie.Need-loop-holds Inv-loop μ-loop
+loop-holds c = search needs
+
+-- src/lib.rt:77:19
+mul-next : tie.Need-mul-next Inv-loop μ-loop
+mul-next c = search needs
+
+-- src/lib.rt:77:19
+shared-slice-read-next : tie.Need-shared-slice-read-next Inv-loop μ-loop
+shared-slice-read-next c = search needs
+
+-- src/lib.rt:77:9
+mul-next-2 : tie.Need-mul-next-2 Inv-loop μ-loop
+mul-next-2 c = search needs
+
+-- src/lib.rt:77:9
+slice-write-next : tie.Need-slice-write-next Inv-loop μ-loop
+slice-write-next c = ?
+
+-- src/lib.rt:78:9
+add-c : tie.Need-add-c Inv-loop μ-loop
+add-c c = search needs
+
+-- src/lib.rt:76:5
+loop-less : tie.Need-loop-less Inv-loop μ-loop
+loop-less c = search needs
+
+-- src/lib.rt:76:5
+loop-again : tie.Need-loop-again Inv-loop μ-loop
+loop-again c = ?
+
+-- src/lib.rt:70:1
+same-length : tie.Need-same-length Inv-loop μ-loop
+same-length c = ?
+
+-- src/lib.rt:70:1
+returns : tie.Need-returns Inv-loop μ-loop
+returns c = ?
+
+pub copy-starts-spec : {M : Type 1} → statement M
+copy-starts-spec =
+    tie.close
+    (tie.spec
+    Inv-loop
+    μ-loop
+    loop-holds
+    mul-next
+    shared-slice-read-next
+    mul-next-2
+    slice-write-next
+    add-c
+    loop-less
+    loop-again
+    same-length
+    returns)

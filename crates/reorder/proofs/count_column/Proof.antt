@@ -1,0 +1,125 @@
+use borrow.Author.Needs.{needs}
+use Prim.Native.Nat.{ℕ, _≤_, _<_, _-_, _+_}
+use mathlib.Core.Path.{_≡_, refl, sym, ap, _∙_}
+use lib.ListN.{length, drop, getD}
+use Rattle.reorder.specs.Steps.{colsOf, widest}
+use Rattle.reorder.proofs.Turns.{Left, left-all, left-on, left-none}
+use Rattle.reorder.proofs.count_column.Statement.{statement}
+use Rattle.reorder.proofs.count_column.Tie as tie
+use Rattle.reorder.proofs.count_column.Reads as reads
+use Rattle.reorder.proofs.count_column.Lts as lts
+use Rattle.desk.proofs.wide.Reads as wide-reads
+use Rattle.reorder.proofs.max.Reads as max-reads
+
+abbrev Inv-loop : tie.InvT-loop
+Inv-loop rows c iperm next₀ at j₀ next j = (j ≤ length rows) × Left (length iperm) widest (colsOf iperm c (drop j rows)) next (colsOf iperm c rows) next₀
+
+abbrev μ-loop : tie.MeasureT-loop
+μ-loop rows c iperm next₀ at j₀ next j = length rows - j
+
+-- src/lib.rt:30:14
+mul-at : tie.Need-mul-at Inv-loop μ-loop
+mul-at c = search needs
+
+-- src/lib.rt:30:14
+shared-slice-read-at : tie.Need-shared-slice-read-at Inv-loop μ-loop
+shared-slice-read-at c = search needs
+
+-- src/lib.rt:32:5
+loop-holds : tie.Need-loop-holds Inv-loop μ-loop
+loop-holds c = search needs
+
+-- src/lib.rt:33:22
+mul-wide : tie.Need-mul-wide Inv-loop μ-loop
+mul-wide c = search needs
+
+-- src/lib.rt:33:22
+shared-slice-read-wide : tie.Need-shared-slice-read-wide Inv-loop μ-loop
+shared-slice-read-wide c = search needs
+
+-- src/lib.rt:33:13
+wide-requires : tie.Need-wide-requires Inv-loop μ-loop
+wide-requires c κs = search needs
+
+-- src/lib.rt:34:26
+mul-max : tie.Need-mul-max Inv-loop μ-loop
+mul-max c = ?
+
+-- src/lib.rt:34:26
+shared-slice-read-max : tie.Need-shared-slice-read-max Inv-loop μ-loop
+shared-slice-read-max c = ?
+
+-- src/lib.rt:34:22
+max-requires : tie.Need-max-requires Inv-loop μ-loop
+max-requires c κs = search needs
+
+-- src/lib.rt:34:13
+wide-requires-2 : tie.Need-wide-requires-2 Inv-loop μ-loop
+wide-requires-2 c κs = search needs
+
+-- src/lib.rt:35:19
+mul-next : tie.Need-mul-next Inv-loop μ-loop
+mul-next c = search needs
+
+-- src/lib.rt:35:19
+slice-read-next : tie.Need-slice-read-next Inv-loop μ-loop
+slice-read-next c = ?
+
+-- src/lib.rt:35:19
+add-next : tie.Need-add-next Inv-loop μ-loop
+add-next c = ?
+
+-- src/lib.rt:35:9
+mul-next-2 : tie.Need-mul-next-2 Inv-loop μ-loop
+mul-next-2 c = search needs
+
+-- src/lib.rt:35:9
+slice-write-next : tie.Need-slice-write-next Inv-loop μ-loop
+slice-write-next c = ?
+
+-- src/lib.rt:36:9
+add-j : tie.Need-add-j Inv-loop μ-loop
+add-j c = search needs
+
+-- src/lib.rt:32:5
+loop-less : tie.Need-loop-less Inv-loop μ-loop
+loop-less c = search needs
+
+-- src/lib.rt:32:5
+loop-again : tie.Need-loop-again Inv-loop μ-loop
+loop-again c = ?
+
+-- src/lib.rt:26:1
+same-length : tie.Need-same-length Inv-loop μ-loop
+same-length c = search needs
+
+-- src/lib.rt:26:1
+returns : tie.Need-returns Inv-loop μ-loop
+returns c = ?
+
+pub count-column-spec : {M : Type 1} → statement M
+count-column-spec =
+    tie.close
+    (tie.spec
+    Inv-loop
+    μ-loop
+    mul-at
+    shared-slice-read-at
+    loop-holds
+    mul-wide
+    shared-slice-read-wide
+    wide-requires
+    mul-max
+    shared-slice-read-max
+    max-requires
+    wide-requires-2
+    mul-next
+    slice-read-next
+    add-next
+    mul-next-2
+    slice-write-next
+    add-j
+    loop-less
+    loop-again
+    same-length
+    returns)
