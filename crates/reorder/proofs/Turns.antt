@@ -1,15 +1,17 @@
 -- One turn of a pass over the entries: with the keys ls done, what is left of the keys gives what all of them give. Assumes nothing.
-use Prim.Native.Nat.{ℕ, zero, suc, _+_, _-_, _<_, _≤_}
+use Prim.Native.Nat.{ℕ, zero, suc, _+_, _-_, _<_, _≤_, max}
 use mathlib.Core.Path.{_≡_, refl, sym, ap, _∙_}
-use mathlib.Core.List.{List, [], _∷_, _++_, append-nil, append-assoc}
+use mathlib.Core.List.{List, [], _∷_, _++_, map, append-assoc}
 use native.Mathlib.Omega.{arith}
-use lib.Ieee.{Float}
-use lib.ListN.{length, getD, set, take, drop, length-append, length-drop, take-append-drop}
-use lib.Seq.{take-at, drop-at, drop-drop, length-take-le}
+use native.Mathlib.Numerals.{add-one}
+use lib.Ieee.{Float, nan}
+use lib.ListN.{length, getD, set, take, drop, length-append, length-drop, take-append-drop, drop-of-length-le}
+use lib.Seq.{take-at, drop-at, drop-drop, drop-cons, set-split, length-take-le}
 use Rattle.desk.specs.Lists.{over}
-use Rattle.reorder.specs.Reorder.{places}
-use Rattle.reorder.specs.Steps.{advanced, placed, Room, Filled}
-use Rattle.reorder.proofs.Steps.{length-advanced, advanced-append, length-places, places-append, length-placed, placed-append, room-rest}
+use Rattle.desk.proofs.Tally.{tally-here}
+use Rattle.reorder.specs.Reorder.{places, newCol, newRow}
+use Rattle.reorder.specs.Steps.{advanced, placed, colsOf, rowsOf, Room, ColumnReady, Filled}
+use Rattle.reorder.proofs.Steps.{bump, length-advanced, advanced-append, length-places, places-append, length-placed, placed-append, room-rest}
 
 -- the keys ks are left to count
 pub record Left (n m : ℕ) (ks next ks₀ next₀ : List ℕ) : Type 0 where
@@ -128,3 +130,46 @@ module _ {i m : ℕ} {ks₀ rs₀ : List ℕ} {vs₀ : List Float} {T₀ : Table
         values = P .values;
         place = sym (take-append-drop m (T .map)) ∙ (rw d at (P .place));
       }
+
+-- the new column of row r, as the code finds it
+pub key-of : (iperm : List ℕ) (c r : ℕ) {w later k : ℕ} → w ≡ r → later ≡ max (getD iperm w 0) (getD iperm c 0) → k ≡ later → k ≡ newCol iperm c r
+key-of iperm c r e f g = g ∙ f ∙ ap (newCol iperm c) e
+
+-- one turn over the rows of a column: the row at j, whose new column is k
+module _ {c m : ℕ} {rows iperm next₀ : List ℕ} (R : ColumnReady c m rows iperm next₀) (next : List ℕ) (j k : ℕ) (h : j < length rows) (key : k ≡ newCol iperm c (getD rows j 0)) (L : Left (length iperm) m (colsOf iperm c (drop j rows)) next (colsOf iperm c rows) next₀) where
+  key-inside : k < length iperm
+  key-inside = omega (arith, R .inverse (getD rows j 0) (R .inside j h), R .inverse c (R .column))
+
+  pub key-next : k < length next
+  key-next = omega (arith, key-inside, R .long, L .long)
+
+  keyed : Left (length iperm) m (k ∷ colsOf iperm c (drop (suc j) rows)) next (colsOf iperm c rows) next₀
+  keyed = rw key (rw (drop-cons rows j 0 h) at L)
+
+  pub key-room : getD next k 0 < m
+  key-room = omega (arith, keyed .room k key-inside, tally-here k (colsOf iperm c (drop (suc j) rows)))
+
+  pub left-turn : Left (length iperm) m (colsOf iperm c (drop (j + 1) rows)) (bump next k) (colsOf iperm c rows) next₀
+  unfolding advanced
+  left-turn =
+      rw add-one
+      (left-on (length iperm) m (k ∷ []) (colsOf iperm c (drop (suc j) rows)) next (bump next k) (colsOf iperm c rows) next₀ (omega (arith, R .long, L .long)) refl keyed)
+
+-- the last turn is past
+pub left-done : (n m j : ℕ) (f : ℕ → ℕ) (rows next ks₀ next₀ : List ℕ) → length rows ≤ j → Left n m (map f (drop j rows)) next ks₀ next₀ → next ≡ advanced ks₀ next₀
+left-done n m j f rows next ks₀ next₀ h L = left-none n m next ks₀ next₀ (rw (drop-of-length-le rows {i = j} h) at L)
+
+pub placing-turn : (c j k row p : ℕ) (v : Float) (rows iperm : List ℕ) (vals : List Float) (T T′ : Tables) {ks₀ rs₀ : List ℕ} {vs₀ : List Float} {T₀ : Tables} → j < length rows → length vals ≡ length rows → length rows ≤ length (T .map) →
+    k ≡ newCol iperm c (getD rows j 0) → row ≡ newRow iperm c (getD rows j 0) → v ≡ getD vals j nan → p ≡ getD (T .next) k 0 →
+    T′ .next ≡ bump (T .next) k → T′ .pr ≡ set (T .pr) (getD (T .next) k 0) row → T′ .pv ≡ set (T .pv) (getD (T .next) k 0) v → T′ .map ≡ set (T .map) j p →
+    Placing j (length rows) (colsOf iperm c (drop j rows)) (rowsOf iperm c (drop j rows)) (drop j vals) T ks₀ rs₀ vs₀ T₀ → Placing (j + 1) (length rows) (colsOf iperm c (drop (j + 1) rows)) (rowsOf iperm c (drop (j + 1) rows)) (drop (j + 1) vals) T′ ks₀ rs₀ vs₀ T₀
+unfolding advanced places placed
+placing-turn c j k row p v rows iperm vals T T′ {ks₀} {rs₀} {vs₀} {T₀} h same fits ek er ev ep moved rows′ values′ place′ P =
+    let cols = colsOf iperm c (drop (suc j) rows) in
+    let rest = rowsOf iperm c (drop (suc j) rows) in
+    let k-vals : j < length vals = omega arith in
+    let first : Placing j (length rows) (k ∷ cols) (row ∷ rest) (v ∷ drop (suc j) vals) T ks₀ rs₀ vs₀ T₀ =
+        rw (ek, er, ev) (rw (drop-cons rows j 0 h, drop-cons vals j nan k-vals) at P) in
+    let written : T′ .map ≡ take j (T .map) ++ (places (T .next) (k ∷ []) ++ drop (j + 1) (T .map)) =
+        place′ ∙ ap (set (T .map) j) ep ∙ (rw (add-one j) (set-split (T .map) j (getD (T .next) k 0) (omega arith))) in
+    rw (← add-one j) at (placing-on {i = j} (k ∷ []) (row ∷ []) (v ∷ []) cols rest (drop (suc j) vals) T T′ fits refl refl moved rows′ values′ written first)

@@ -1,9 +1,12 @@
-use borrow.Author.Needs.{needs}
+use native.Mathlib.Omega.{arith}
+use borrow.Author.Needs.{needs, scaled-fits}
 use Prim.Native.Nat.{ℕ, _≤_, _<_, _-_, _+_}
 use mathlib.Core.Path.{_≡_, refl, sym, ap, _∙_}
+use denote.Ref.{now}
 use lib.ListN.{length, drop, getD}
+use Rattle.reorder.specs.Reorder.{newCol}
 use Rattle.reorder.specs.Steps.{colsOf, widest}
-use Rattle.reorder.proofs.Turns.{Left, left-all, left-on, left-none}
+use Rattle.reorder.proofs.Turns.{Left, key-of, key-next, key-room, left-turn, left-done}
 use Rattle.reorder.proofs.count_column.Statement.{statement}
 use Rattle.reorder.proofs.count_column.Tie as tie
 use Rattle.reorder.proofs.count_column.Reads as reads
@@ -16,6 +19,25 @@ Inv-loop rows c iperm next₀ at j₀ next j = (j ≤ length rows) × Left (leng
 
 abbrev μ-loop : tie.MeasureT-loop
 μ-loop rows c iperm next₀ at j₀ next j = length rows - j
+
+abbrev entry : tie.At-loop Inv-loop μ-loop → tie.Start Inv-loop μ-loop
+entry at = at .before .before .before .before .before
+
+-- the row that a turn names
+row : (c : tie.After-wide Inv-loop μ-loop) → c .wide .result < length (now (entry (c .before .before .before) .args .iperm))
+row c =
+    let at = c .before .before .before in
+    rw (c .wide .ensures) (entry at .pre .inside (at .loop .j) (c .before .before .loop-test .taken))
+
+-- its new column
+abbrev turn : tie.After-wide2 Inv-loop μ-loop → tie.At-loop Inv-loop μ-loop
+turn c = c .before .before .before .before .before .before
+
+key : (c : tie.After-wide2 Inv-loop μ-loop) → c .wide2 .result ≡ newCol (now (entry (turn c) .args .iperm)) (entry (turn c) .args .c) (getD (now (entry (turn c) .args .rows)) (turn c .loop .j) 0)
+key c = key-of (now (entry (turn c) .args .iperm)) (entry (turn c) .args .c) _ (c .before .before .before .wide .ensures) (c .before .max .ensures) (c .wide2 .ensures)
+
+taken : (c : tie.After-wide2 Inv-loop μ-loop) → turn c .loop .j < length (now (entry (turn c) .args .rows))
+taken c = c .before .before .before .before .before .loop-test .taken
 
 -- src/lib.rt:30:14
 mul-at : tie.Need-mul-at Inv-loop μ-loop
@@ -43,11 +65,11 @@ wide-requires c κs = search needs
 
 -- src/lib.rt:34:26
 mul-max : tie.Need-mul-max Inv-loop μ-loop
-mul-max c = ?
+mul-max c = scaled-fits _ _ 4 (row c) (entry (c .before .before .before) .good .1 .1 .0 .1)
 
 -- src/lib.rt:34:26
 shared-slice-read-max : tie.Need-shared-slice-read-max Inv-loop μ-loop
-shared-slice-read-max c = ?
+shared-slice-read-max c = row (c .before)
 
 -- src/lib.rt:34:22
 max-requires : tie.Need-max-requires Inv-loop μ-loop
@@ -63,11 +85,11 @@ mul-next c = search needs
 
 -- src/lib.rt:35:19
 slice-read-next : tie.Need-slice-read-next Inv-loop μ-loop
-slice-read-next c = ?
+slice-read-next c = let at = turn (c .before) in key-next (entry at .pre) _ _ _ (taken (c .before)) (key (c .before)) (at .loop .inv .1)
 
 -- src/lib.rt:35:19
 add-next : tie.Need-add-next Inv-loop μ-loop
-add-next c = ?
+add-next c = let at = turn (c .before) in omega (arith, key-room (entry at .pre) _ _ _ (taken (c .before)) (key (c .before)) (at .loop .inv .1))
 
 -- src/lib.rt:35:9
 mul-next-2 : tie.Need-mul-next-2 Inv-loop μ-loop
@@ -75,7 +97,7 @@ mul-next-2 c = search needs
 
 -- src/lib.rt:35:9
 slice-write-next : tie.Need-slice-write-next Inv-loop μ-loop
-slice-write-next c = ?
+slice-write-next c = slice-read-next c
 
 -- src/lib.rt:36:9
 add-j : tie.Need-add-j Inv-loop μ-loop
@@ -87,7 +109,9 @@ loop-less c = search needs
 
 -- src/lib.rt:32:5
 loop-again : tie.Need-loop-again Inv-loop μ-loop
-loop-again c = ?
+loop-again c =
+    let at = turn (c .before) in
+    (search needs, left-turn (entry at .pre) _ _ _ (taken (c .before)) (key (c .before)) (at .loop .inv .1))
 
 -- src/lib.rt:26:1
 same-length : tie.Need-same-length Inv-loop μ-loop
@@ -95,7 +119,9 @@ same-length c = search needs
 
 -- src/lib.rt:26:1
 returns : tie.Need-returns Inv-loop μ-loop
-returns c = ?
+returns c =
+    let at = c .before in
+    left-done _ _ (at .loop .j) _ _ _ _ _ (c .loop-test .left) (at .loop .inv .1)
 
 pub count-column-spec : {M : Type 1} → statement M
 count-column-spec =

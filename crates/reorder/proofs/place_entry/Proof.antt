@@ -1,3 +1,4 @@
+use mathlib.Core.Path.{refl}
 use borrow.Author.Needs.{needs}
 use Rattle.reorder.proofs.place_entry.Statement.{statement}
 use Rattle.reorder.proofs.place_entry.Tie as tie
@@ -59,7 +60,7 @@ same-length-3 c = search needs
 
 -- src/lib.rt:83:1
 returns : tie.Need-returns
-returns c = ?
+returns c = (refl, (refl, (rw (c .wide .ensures), rw (c .wide .ensures))))
 
 pub place-entry-spec : {M : Type 1} → statement M
 place-entry-spec =
