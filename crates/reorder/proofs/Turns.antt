@@ -1,5 +1,5 @@
 -- One turn of a pass over the entries: with the keys ls done, what is left of the keys gives what all of them give. Assumes nothing.
-use Prim.Native.Nat.{ℕ, zero, suc, _+_, _-_, _<_, _≤_, max}
+use Prim.Native.Nat.{ℕ, zero, suc, _+_, _-_, _<_, _≤_}
 use mathlib.Core.Path.{_≡_, refl, sym, ap, _∙_}
 use mathlib.Core.List.{List, [], _∷_, _++_, map, append-assoc}
 use native.Mathlib.Omega.{arith}
@@ -131,10 +131,6 @@ module _ {i m : ℕ} {ks₀ rs₀ : List ℕ} {vs₀ : List Float} {T₀ : Table
         place = sym (take-append-drop m (T .map)) ∙ (rw d at (P .place));
       }
 
--- the new column of row r, as the code finds it
-pub key-of : (iperm : List ℕ) (c r : ℕ) {w later k : ℕ} → w ≡ r → later ≡ max (getD iperm w 0) (getD iperm c 0) → k ≡ later → k ≡ newCol iperm c r
-key-of iperm c r e f g = g ∙ f ∙ ap (newCol iperm c) e
-
 -- one turn over the rows of a column: the row at j, whose new column is k
 module _ {c m : ℕ} {rows iperm next₀ : List ℕ} (R : ColumnReady c m rows iperm next₀) (next : List ℕ) (j k : ℕ) (h : j < length rows) (key : k ≡ newCol iperm c (getD rows j 0)) (L : Left (length iperm) m (colsOf iperm c (drop j rows)) next (colsOf iperm c rows) next₀) where
   key-inside : k < length iperm
@@ -149,11 +145,11 @@ module _ {c m : ℕ} {rows iperm next₀ : List ℕ} (R : ColumnReady c m rows i
   pub key-room : getD next k 0 < m
   key-room = omega (arith, keyed .room k key-inside, tally-here k (colsOf iperm c (drop (suc j) rows)))
 
-  pub left-turn : Left (length iperm) m (colsOf iperm c (drop (j + 1) rows)) (bump next k) (colsOf iperm c rows) next₀
+  pub left-turn : (next′ : List ℕ) → next′ ≡ bump next k → Left (length iperm) m (colsOf iperm c (drop (j + 1) rows)) next′ (colsOf iperm c rows) next₀
   unfolding advanced
-  left-turn =
+  left-turn next′ moved =
       rw add-one
-      (left-on (length iperm) m (k ∷ []) (colsOf iperm c (drop (suc j) rows)) next (bump next k) (colsOf iperm c rows) next₀ (omega (arith, R .long, L .long)) refl keyed)
+      (left-on (length iperm) m (k ∷ []) (colsOf iperm c (drop (suc j) rows)) next next′ (colsOf iperm c rows) next₀ (omega (arith, R .long, L .long)) moved keyed)
 
 -- the last turn is past
 pub left-done : (n m j : ℕ) (f : ℕ → ℕ) (rows next ks₀ next₀ : List ℕ) → length rows ≤ j → Left n m (map f (drop j rows)) next ks₀ next₀ → next ≡ advanced ks₀ next₀
@@ -173,3 +169,6 @@ placing-turn c j k row p v rows iperm vals T T′ {ks₀} {rs₀} {vs₀} {T₀}
     let written : T′ .map ≡ take j (T .map) ++ (places (T .next) (k ∷ []) ++ drop (j + 1) (T .map)) =
         place′ ∙ ap (set (T .map) j) ep ∙ (rw (add-one j) (set-split (T .map) j (getD (T .next) k 0) (omega arith))) in
     rw (← add-one j) at (placing-on {i = j} (k ∷ []) (row ∷ []) (v ∷ []) cols rest (drop (suc j) vals) T T′ fits refl refl moved rows′ values′ written first)
+
+pub placing-done : (m j : ℕ) (f g : ℕ → ℕ) (rows : List ℕ) (vs : List Float) (T : Tables) {ks₀ rs₀ : List ℕ} {vs₀ : List Float} {T₀ : Tables} → length rows ≤ j → Placing j m (map f (drop j rows)) (map g (drop j rows)) vs T ks₀ rs₀ vs₀ T₀ → T .next ≡ advanced ks₀ (T₀ .next) → Filled ks₀ rs₀ vs₀ (T₀ .next) (T .next) (T₀ .pr) (T .pr) (T₀ .pv) (T .pv) (T₀ .map) (T .map)
+placing-done m j f g rows vs T h P e = placing-none T [] vs (rw (drop-of-length-le rows {i = j} h) at P) e

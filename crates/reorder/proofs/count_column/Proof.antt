@@ -6,7 +6,7 @@ use denote.Ref.{now}
 use lib.ListN.{length, drop, getD}
 use Rattle.reorder.specs.Reorder.{newCol}
 use Rattle.reorder.specs.Steps.{colsOf, widest}
-use Rattle.reorder.proofs.Turns.{Left, key-of, key-next, key-room, left-turn, left-done}
+use Rattle.reorder.proofs.Turns.{Left, key-next, key-room, left-turn, left-done}
 use Rattle.reorder.proofs.count_column.Statement.{statement}
 use Rattle.reorder.proofs.count_column.Tie as tie
 use Rattle.reorder.proofs.count_column.Reads as reads
@@ -34,7 +34,7 @@ abbrev turn : tie.After-wide2 Inv-loop μ-loop → tie.At-loop Inv-loop μ-loop
 turn c = c .before .before .before .before .before .before
 
 key : (c : tie.After-wide2 Inv-loop μ-loop) → c .wide2 .result ≡ newCol (now (entry (turn c) .args .iperm)) (entry (turn c) .args .c) (getD (now (entry (turn c) .args .rows)) (turn c .loop .j) 0)
-key c = key-of (now (entry (turn c) .args .iperm)) (entry (turn c) .args .c) _ (c .before .before .before .wide .ensures) (c .before .max .ensures) (c .wide2 .ensures)
+key c = c .wide2 .ensures ∙ c .before .max .ensures ∙ ap (newCol (now (entry (turn c) .args .iperm)) (entry (turn c) .args .c)) (c .before .before .before .wide .ensures)
 
 taken : (c : tie.After-wide2 Inv-loop μ-loop) → turn c .loop .j < length (now (entry (turn c) .args .rows))
 taken c = c .before .before .before .before .before .loop-test .taken
@@ -111,7 +111,7 @@ loop-less c = search needs
 loop-again : tie.Need-loop-again Inv-loop μ-loop
 loop-again c =
     let at = turn (c .before) in
-    (search needs, left-turn (entry at .pre) _ _ _ (taken (c .before)) (key (c .before)) (at .loop .inv .1))
+    (search needs, left-turn (entry at .pre) _ _ _ (taken (c .before)) (key (c .before)) (at .loop .inv .1) _ refl)
 
 -- src/lib.rt:26:1
 same-length : tie.Need-same-length Inv-loop μ-loop

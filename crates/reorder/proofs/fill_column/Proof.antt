@@ -1,9 +1,12 @@
-use borrow.Author.Needs.{needs}
+use native.Mathlib.Omega.{arith}
+use borrow.Author.Needs.{needs, scaled-fits}
 use Prim.Native.Nat.{ℕ, _≤_, _<_, _-_, _+_}
 use mathlib.Core.Path.{_≡_, refl, sym, ap, _∙_}
-use lib.ListN.{length, drop, getD}
+use denote.Ref.{now}
+use lib.ListN.{length, drop, getD, set, length-map}
+use Rattle.reorder.specs.Reorder.{newCol, newRow}
 use Rattle.reorder.specs.Steps.{colsOf, rowsOf, roomOf, widest}
-use Rattle.reorder.proofs.Turns.{Left, left-all, left-on, left-none, Placing, placing-all, placing-on, placing-none}
+use Rattle.reorder.proofs.Turns.{Left, left-all, left-turn, left-done, key-next, key-room, Tables, Placing, placing-all, placing-turn, placing-done}
 use Rattle.reorder.proofs.fill_column.Statement.{statement}
 use Rattle.reorder.proofs.fill_column.Tie as tie
 use Rattle.reorder.proofs.fill_column.Reads as reads
@@ -19,6 +22,33 @@ Inv-loop rows vals c iperm next₀ pr₀ pv₀ map₀ at j₀ next pr pv map j =
 abbrev μ-loop : tie.MeasureT-loop
 μ-loop rows vals c iperm next₀ pr₀ pv₀ map₀ at j₀ next pr pv map j = length rows - j
 
+abbrev entry : tie.At-loop Inv-loop μ-loop → tie.Start Inv-loop μ-loop
+entry at = at .before .before .before .before .before .before .before .before .before
+
+abbrev tables : tie.At-loop Inv-loop μ-loop → Tables
+tables at = record { next = at .loop .next; pr = at .loop .pr; pv = at .loop .pv; map = at .loop .map }
+
+-- the row that a turn names
+row : (c : tie.After-wide Inv-loop μ-loop) → c .wide .result < length (now (entry (c .before .before .before) .args .iperm))
+row c =
+    let at = c .before .before .before in
+    rw (c .wide .ensures) (entry at .pre .0 .inside (at .loop .j) (c .before .before .loop-test .taken))
+
+-- its new column
+abbrev turn : tie.After-wide2 Inv-loop μ-loop → tie.At-loop Inv-loop μ-loop
+turn c = c .before .before .before .before .before .before
+
+key : (c : tie.After-wide2 Inv-loop μ-loop) → c .wide2 .result ≡ newCol (now (entry (turn c) .args .iperm)) (entry (turn c) .args .c) (getD (now (entry (turn c) .args .rows)) (turn c .loop .j) 0)
+key c = c .wide2 .ensures ∙ c .before .max .ensures ∙ ap (newCol (now (entry (turn c) .args .iperm)) (entry (turn c) .args .c)) (c .before .before .before .wide .ensures)
+
+newest : (c : tie.After-min Inv-loop μ-loop) → c .min .result ≡ newRow (now (entry (turn (c .before)) .args .iperm)) (entry (turn (c .before)) .args .c) (getD (now (entry (turn (c .before)) .args .rows)) (turn (c .before) .loop .j) 0)
+newest c =
+    let at = turn (c .before) in
+    c .min .ensures ∙ ap (newRow (now (entry at .args .iperm)) (entry at .args .c)) (c .before .before .before .before .wide .ensures)
+
+taken : (c : tie.After-wide2 Inv-loop μ-loop) → turn c .loop .j < length (now (entry (turn c) .args .rows))
+taken c = c .before .before .before .before .before .loop-test .taken
+
 -- src/lib.rt:115:14
 mul-at : tie.Need-mul-at Inv-loop μ-loop
 mul-at c = search needs
@@ -29,7 +59,9 @@ shared-slice-read-at c = search needs
 
 -- src/lib.rt:117:5
 loop-holds : tie.Need-loop-holds Inv-loop μ-loop
-loop-holds c = ?
+loop-holds c =
+    let start = c .before .before .before .before .before .before .before .before in
+    (search needs, left-all (start .pre .0 .room), placing-all _ _ _ _ _ (length-map (now (start .args .rows)) _))
 
 -- src/lib.rt:118:22
 mul-wide : tie.Need-mul-wide Inv-loop μ-loop
@@ -45,11 +77,11 @@ wide-requires c κs = search needs
 
 -- src/lib.rt:119:19
 mul-row : tie.Need-mul-row Inv-loop μ-loop
-mul-row c = ?
+mul-row c = scaled-fits _ _ 4 (row c) (entry (c .before .before .before) .good .1 .1 .1 .0 .1)
 
 -- src/lib.rt:119:19
 shared-slice-read-row : tie.Need-shared-slice-read-row Inv-loop μ-loop
-shared-slice-read-row c = ?
+shared-slice-read-row c = row (c .before)
 
 -- src/lib.rt:120:22
 max-requires : tie.Need-max-requires Inv-loop μ-loop
@@ -73,7 +105,14 @@ shared-slice-read-place-entry c = search needs
 
 -- src/lib.rt:121:18
 place-entry-requires : tie.Need-place-entry-requires Inv-loop μ-loop
-place-entry-requires c κs = ?
+place-entry-requires c κs =
+    let k = c .before .before .before .before .before in
+    let at = turn k in
+    let fits = key-room (entry at .pre .0) _ _ _ (taken k) (key k) (at .loop .inv .1) in
+    (
+      key-next (entry at .pre .0) _ _ _ (taken k) (key k) (at .loop .inv .1),
+      omega (arith, fits, at .loop .inv .2 .longRows, at .loop .inv .2 .longValues),
+    )
 
 -- src/lib.rt:121:9
 mul-map : tie.Need-mul-map Inv-loop μ-loop
@@ -93,7 +132,26 @@ loop-less c = search needs
 
 -- src/lib.rt:117:5
 loop-again : tie.Need-loop-again Inv-loop μ-loop
-loop-again c = ?
+loop-again c =
+    let placed = c .before .before .before .before .before .before in
+    let least = placed .before .before .before .before .before in
+    let k = least .before in
+    let at = turn k in
+    let args = entry at .args in
+    let done = placed .place-entry .ensures in
+    let T′ : Tables =
+        record {
+          next = placed .place-entry .last .1 .1 .1 .0;
+          pr = placed .place-entry .last .1 .1 .1 .1 .0;
+          pv = placed .place-entry .last .1 .1 .1 .1 .1 .0;
+          map = set (at .loop .map) (at .loop .j) (placed .place-entry .result);
+        } in
+    (
+      search needs,
+      left-turn (entry at .pre .0) _ _ _ (taken k) (key k) (at .loop .inv .1) _ (done .1 .0),
+      placing-turn (args .c) (at .loop .j) (k .wide2 .result) _ _ _ (now (args .rows)) (now (args .iperm)) (now (args .vals)) (tables at) T′ (taken k) (entry at .pre .1 .0)
+      (omega (arith, entry at .pre .1 .1, at .loop .inv .2 .longMap)) (key k) (newest least) refl (done .0) (done .1 .0) (done .1 .1 .0) (done .1 .1 .1) refl (at .loop .inv .2),
+    )
 
 -- src/lib.rt:100:1
 same-length : tie.Need-same-length Inv-loop μ-loop
@@ -113,7 +171,9 @@ same-length-4 c = search needs
 
 -- src/lib.rt:100:1
 returns : tie.Need-returns Inv-loop μ-loop
-returns c = ?
+returns c =
+    let at = c .before in
+    placing-done _ (at .loop .j) _ _ _ _ _ (c .loop-test .left) (at .loop .inv .2) (left-done _ _ (at .loop .j) _ _ _ _ _ (c .loop-test .left) (at .loop .inv .1))
 
 pub fill-column-spec : {M : Type 1} → statement M
 fill-column-spec =
