@@ -1,5 +1,7 @@
 pub mod Formed
 pub mod Gather
+pub mod Passes
 pub mod Starts
 pub mod Steps
 pub mod Turns
+pub mod Written

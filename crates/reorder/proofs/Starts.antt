@@ -57,12 +57,3 @@ module _ (ks : List ℕ) where
       (λ c h.
           let k : c < n = omega arith in
           getD-take n (advanced ks next) c 0 k ∙ advanced-at ks next c (omega arith) ∙ omega (arith, z c k) ∙ sym (getD-upto (λ c. tally c ks) 0 n c k))
-
--- the front of a table that new is written over is new
-pub getD-over : {A : Type 0} (d : A) (new old : List A) (c : ℕ) → c < length new → getD (over new old) c d ≡ getD new c d
-unfolding over
-getD-over d new old c h = List·getD-append new (drop (length new) old) d c h
-
-pub length-over : {A : Type 0} (new old : List A) → length new ≤ length old → length (over new old) ≡ length old
-unfolding over
-length-over new old h = omega (arith, length-append new (drop (length new) old), length-drop (length new) old)
