@@ -1,6 +1,7 @@
 pub mod Formed
 pub mod Gather
 pub mod Passes
+pub mod Phases
 pub mod Starts
 pub mod Steps
 pub mod Turns
