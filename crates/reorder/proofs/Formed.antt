@@ -1,6 +1,6 @@
 -- What a matrix that is not malformed has, and what follows of its columns and of what is said of each entry. Assumes nothing.
 use Prim.Native.Nat.{ℕ, zero, suc, _+_, _-_, _<_, _≤_}
-use mathlib.Core.Path.{_≡_, refl, sym, ap, _∙_}
+use mathlib.Core.Path.{_≡_, refl, sym, ap}
 use mathlib.Core.Bool.{Bool, true, false, not, _||_, false≢true}
 use mathlib.Core.List.{List, [], _∷_, _++_, map}
 use native.Mathlib.Decide.{ℕ-discrete}
@@ -56,8 +56,8 @@ formed n ptr rows s e =
       first = start ptr (omega arith) (eqb-true _ _ (not-false _ (later .0)));
       rises =
           λ c h.
-              rw (add-one c)
-              (ltb-false _ _ (none-from (λ c. ltb (getD ptr (suc c) 0) (getD ptr c 0)) 0 (length ptr - 1) c (falls .0) (omega arith) (omega arith)));
+          rw (add-one c)
+          (ltb-false _ _ (none-from (λ c. ltb (getD ptr (suc c) 0) (getD ptr c 0)) 0 (length ptr - 1) c (falls .0) (omega arith) (omega arith)));
       last = rw end at (eqb-true (getD ptr (length ptr - 1) 0) (length rows) (not-false _ (falls .1)));
       inside = λ j h. leb-false _ _ (none-at (leb n) 0 rows (pointers .1) j h);
     }

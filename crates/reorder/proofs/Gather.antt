@@ -1,6 +1,6 @@
 -- Where each entry is written to the next free place of its column, and the columns' places lie one after the other, the table's front
 -- is the columns one after the other. Assumes nothing.
-use Prim.Native.Nat.{ℕ, zero, suc, _+_, _-_, _<_, _≤_}
+use Prim.Native.Nat.{ℕ, zero, suc, _+_, _<_, _≤_}
 use mathlib.Core.Path.{_≡_, refl, sym, ap, _∙_}
 use mathlib.Core.List.{List, [], _∷_, _++_, append-assoc}
 use native.Mathlib.Nat.{zero-add}
@@ -92,8 +92,8 @@ module _ {A : Type 0} (d : A) (n : ℕ) where
         elim (ℕ-discrete k c) [
           | yes e ↦ rw (← e) (one-here q (omega arith) (omega (arith, ap (λ (i : ℕ). tally i (k ∷ ks)) e)))
           | no ne ↦ rw (inColumn-past c k ks x xs ne)
-            (ap (λ (p : ℕ). getD R p d) (omega (arith, getD-set-other next k c (getD next k 0 + 1) 0 (λ e. ne (sym e))))
-            ∙ rest c q h (omega (arith, tally-past c k ks ne)))
+              (ap (λ (p : ℕ). getD R p d) (omega (arith, getD-set-other next k c (getD next k 0 + 1) 0 (λ e. ne (sym e))))
+              ∙ rest c q h (omega (arith, tally-past c k ks ne)))
         ]
 
   -- each column's places hold those of the xs that come to it, in their order
@@ -128,10 +128,10 @@ module _ {A : Type 0} (d : A) (n : ℕ) (ks : List ℕ) (xs : List A) (same : le
   joined R fits holds c (suc k) e =
       let size : tally c ks ≤ length (drop (below c ks) R) = omega (arith, length-drop (below c ks) R, below-suc c ks, below-le (suc c) ks) in
       let part : take (tally c ks) (drop (below c ks) R) ≡ inColumn c ks xs =
-          ext-getD d (take (tally c ks) (drop (below c ks) R)) (inColumn c ks xs) (length-take-le _ _ size ∙ sym (length-inColumn c ks xs same))
-          (λ q l.
-              let t : q < tally c ks = omega (arith, length-take-le (tally c ks) (drop (below c ks) R) size) in
-              getD-take (tally c ks) (drop (below c ks) R) q d t ∙ getD-drop (below c ks) R q d ∙ holds c q (omega arith) t) in
+      ext-getD d (take (tally c ks) (drop (below c ks) R)) (inColumn c ks xs) (length-take-le _ _ size ∙ sym (length-inColumn c ks xs same))
+      (λ q l.
+      let t : q < tally c ks = omega (arith, length-take-le (tally c ks) (drop (below c ks) R) size) in
+      getD-take (tally c ks) (drop (below c ks) R) q d t ∙ getD-drop (below c ks) R q d ∙ holds c q (omega arith) t) in
       sym (take-append-drop (tally c ks) (drop (below c ks) R))
       ∙ ap (λ (l : List A). l ++ drop (tally c ks) (drop (below c ks) R)) part
       ∙ ap (λ (l : List A). inColumn c ks xs ++ l) (drop-drop (tally c ks) (below c ks) R ∙ ap (λ (i : ℕ). drop i R) (sym (below-suc c ks)) ∙ joined R fits holds (suc c) k (omega arith))
@@ -146,22 +146,22 @@ module _ {A : Type 0} (d : A) (n : ℕ) (ks : List ℕ) (xs : List A) (same : le
       let room : Room n (length ks) next ks = λ c h. omega (arith, starts c h, below-suc c ks, below-le (suc c) ks) in
       let apart : Apart n next ks = λ c e k h. omega (arith, starts c (omega arith), starts e h, below-suc c ks, below-mono (suc c) e ks k) in
       let holds : (c q : ℕ) → c < n → q < tally c ks → getD R (below c ks + q) d ≡ getD (inColumn c ks xs) q d =
-          λ c q h t.
-              ap (λ (i : ℕ). getD R (i + q) d) (sym (starts c h))
-              ∙ in-place d n ks xs next out b l apart (λ k i. omega (arith, room k i)) same c q h t in
+      λ c q h t.
+      ap (λ (i : ℕ). getD R (i + q) d) (sym (starts c h))
+      ∙ in-place d n ks xs next out b l apart (λ k i. omega (arith, room k i)) same c q h t in
       let whole : R ≡ gathered (upto n) ks xs ++ drop (below n ks) R =
-          ap (λ (i : ℕ). drop i R) (sym (below-zero ks)) ∙ joined R (omega arith) holds 0 n (zero-add n) in
+      ap (λ (i : ℕ). drop i R) (sym (below-zero ks)) ∙ joined R (omega arith) holds 0 n (zero-add n) in
       let rest : drop (length ks) R ≡ drop (length ks) out =
-          ext-getD d (drop (length ks) R) (drop (length ks) out) (omega (arith, length-drop (length ks) R, length-drop (length ks) out))
-          (λ i h.
-              getD-drop (length ks) R i d
-              ∙ untouched d n (length ks + i) ks xs next out b l (λ c k le. omega (arith, room c k))
-              ∙ sym (getD-drop (length ks) out i d)) in
+      ext-getD d (drop (length ks) R) (drop (length ks) out) (omega (arith, length-drop (length ks) R, length-drop (length ks) out))
+      (λ i h.
+      getD-drop (length ks) R i d
+      ∙ untouched d n (length ks + i) ks xs next out b l (λ c k le. omega (arith, room c k))
+      ∙ sym (getD-drop (length ks) out i d)) in
       let size : length (gathered (upto n) ks xs) ≡ length ks =
-          omega (arith, ap length whole, length-append (gathered (upto n) ks xs) (drop (below n ks) R), length-drop (below n ks) R) in
+      omega (arith, ap length whole, length-append (gathered (upto n) ks xs) (drop (below n ks) R), length-drop (below n ks) R) in
       whole
       ∙ ap (λ (r : List A). gathered (upto n) ks xs ++ r)
-          (ap (λ (i : ℕ). drop i R) all ∙ rest ∙ ap (λ (i : ℕ). drop i out) (sym size))
+      (ap (λ (i : ℕ). drop i R) all ∙ rest ∙ ap (λ (i : ℕ). drop i out) (sym size))
 
 -- the places depend on no more than the next free ones of the columns that there are
 pub places-same : (n : ℕ) (ks next other : List ℕ) → Each n ks → n ≤ length next → n ≤ length other → ((c : ℕ) → c < n → getD next c 0 ≡ getD other c 0) → places next ks ≡ places other ks
@@ -169,7 +169,7 @@ unfolding places
 places-same n [] next other b l m e = refl
 places-same n (k ∷ ks) next other b l m e =
     let rest =
-        places-same n ks (bump next k) (bump other k) (λ j h. b (suc j) (omega arith)) (rw length-set l) (rw length-set m)
-        (λ c h. omega (arith, e c h, bump-kept next [] k c (omega arith), bump-kept other [] k c (omega arith))) in
+    places-same n ks (bump next k) (bump other k) (λ j h. b (suc j) (omega arith)) (rw length-set l) (rw length-set m)
+    (λ c h. omega (arith, e c h, bump-kept next [] k c (omega arith), bump-kept other [] k c (omega arith))) in
     let first = e k (b 0 (omega arith)) in
     cc

@@ -1,17 +1,17 @@
 -- One turn of a pass over the columns: with the rows of column c done, what is left of the entries gives what all of them give. Assumes nothing.
 use Prim.Native.Nat.{ℕ, _+_, _-_, _<_, _≤_}
 use mathlib.Core.Path.{_≡_, refl, sym, ap, _∙_}
-use mathlib.Core.List.{List, [], _∷_, _++_, append-nil}
+use mathlib.Core.List.{List, _++_}
 use native.Mathlib.Nat.{sub-zero, zero-add}
 use native.Mathlib.Omega.{arith}
 use lib.Ieee.{Float}
-use lib.ListN.{length, getD, take, drop, length-map, length-drop, take-append-drop, drop-of-length-le}
+use lib.ListN.{length, getD, take, drop, length-map, length-drop, take-append-drop}
 use lib.Seq.{drop-drop, length-take-le}
-use Rattle.desk.specs.Lists.{from, upto, over}
+use Rattle.desk.specs.Lists.{from}
 use Rattle.csc.specs.Csc.{column}
 use Rattle.reorder.specs.Reorder.{newCol, newRow, newCols, newRows, perEntry, places}
-use Rattle.reorder.specs.Steps.{advanced, placed, colsOf, rowsOf, Room, ColumnReady, EntriesReady, Filled}
-use Rattle.reorder.proofs.Formed.{Formed, formed, ends, column-is, length-column, column-inside, entries-more, entries-none, length-entries}
+use Rattle.reorder.specs.Steps.{advanced, colsOf, rowsOf, ColumnReady, EntriesReady, Filled}
+use Rattle.reorder.proofs.Formed.{Formed, formed, ends, length-column, column-inside, entries-more, entries-none, length-entries}
 use Rattle.reorder.proofs.Steps.{room-first, length-places}
 use Rattle.reorder.proofs.Written.{over-whole}
 use Rattle.reorder.proofs.Turns.{Left, left-on, left-none, Tables, Placing, placing-all, placing-on, placing-none}
@@ -86,14 +86,14 @@ module _ {m : ℕ} {ptr rows iperm next₀ : List ℕ} (E : EntriesReady m ptr r
         let vs = take (z - a) (drop a nzval) in
         let size : length ls ≡ length part = length-map part (newCol iperm c) in
         let values : drop a nzval ≡ vs ++ drop z nzval =
-            sym (take-append-drop (z - a) (drop a nzval)) ∙ ap (λ (l : List Float). vs ++ l) (later nzval) in
+        sym (take-append-drop (z - a) (drop a nzval)) ∙ ap (λ (l : List Float). vs ++ l) (later nzval) in
         let first : Placing a (length rows) (ls ++ colsFrom iperm ptr rows (c + 1)) (rowsOf iperm c part ++ rowsFrom iperm ptr rows (c + 1)) (vs ++ drop z nzval) T ks₀ rs₀ vs₀ T₀ =
-            rw (← values, e, ← entries-more (newCol iperm) ptr rows (length iperm) c h, ← entries-more (newRow iperm) ptr rows (length iperm) c h, p) P in
+        rw (← values, e, ← entries-more (newCol iperm) ptr rows (length iperm) c h, ← entries-more (newRow iperm) ptr rows (length iperm) c h, p) P in
         let end : a + length ls ≡ z = omega (arith, long-part) in
         let whole : map′ ≡ places (T .next) ls =
-            F .place ∙ over-whole (places (T .next) ls) (take (z - a) (drop a (T .map))) (omega (arith, long-lent (T .map) fits, length-places ls (T .next))) in
+        F .place ∙ over-whole (places (T .next) ls) (take (z - a) (drop a (T .map))) (omega (arith, long-lent (T .map) fits, length-places ls (T .next))) in
         let written : take a (T .map) ++ (map′ ++ drop (z - a) (drop a (T .map))) ≡ take a (T .map) ++ (places (T .next) ls ++ drop (a + length ls) (T .map)) =
-            rw (whole, later (T .map), end) in
+        rw (whole, later (T .map), end) in
         rw (← q)
         (rw end at (placing-on {i = a} ls (rowsOf iperm c part) vs (colsFrom iperm ptr rows (c + 1)) (rowsFrom iperm ptr rows (c + 1)) (drop z nzval) T (record { next = next′; pr = pr′; pv = pv′; map = take a (T .map) ++ (map′ ++ drop (z - a) (drop a (T .map))) }) fits
         (length-map part (newRow iperm c) ∙ sym size) (long-lent nzval (omega arith) ∙ sym size) (F .moved) (F .rows) (F .values) written first))

@@ -1,13 +1,13 @@
 -- What each phase of the reordering leaves for the next: cleared counts, counts, pointers, next free places, the filled tables. Assumes nothing.
-use Prim.Native.Nat.{ℕ, suc, _+_, _^_, _<_, _≤_}
-use mathlib.Core.Path.{_≡_, sym, ap, _∙_}
+use Prim.Native.Nat.{ℕ, suc, _^_, _<_, _≤_}
+use mathlib.Core.Path.{_≡_, ap, _∙_}
 use mathlib.Core.List.{List}
 use native.Mathlib.Nat.{zero-add}
 use native.Mathlib.Omega.{arith}
 use lib.Ieee.{Float, nan}
 use lib.ListN.{length, getD, take, replicate, length-replicate, getD-replicate}
 use lib.Seq.{getD-take, length-take-le}
-use Rattle.desk.specs.Lists.{tally, sums, over}
+use Rattle.desk.specs.Lists.{sums, over}
 use Rattle.desk.proofs.Tally.{below, below-suc, below-le}
 use Rattle.csc.specs.Csc.{Csc}
 use Rattle.reorder.specs.Reorder.{newCol, newRow, newCols, newRows, starts, places, reordered, mapOf, Reorderable, Reordered}
@@ -16,7 +16,7 @@ use Rattle.reorder.proofs.Formed.{Formed, formed, length-entries, each-
 use Rattle.reorder.proofs.Gather.{Each, fills, places-same}
 use Rattle.reorder.proofs.Starts.{length-starts, starts-at, counts}
 use Rattle.reorder.proofs.Steps.{length-advanced}
-use Rattle.reorder.proofs.Written.{getD-over, take-over, length-over}
+use Rattle.reorder.proofs.Written.{getD-over, length-over}
 
 module _ {iperm map₀ next₀ : List ℕ} {A P : Csc} (R : Reorderable iperm A P map₀ next₀) where
   well : Formed (length iperm) (A .colptr) (A .rowval)
@@ -124,5 +124,5 @@ module _ {iperm map₀ next₀ : List ℕ} {A P : Csc} (R : Reorderable iperm A 
               places =
                   F .place
                   ∙ ap (λ (l : List ℕ). over l map₀)
-                      (places-same (length iperm) keys next₃ (starts (length iperm) keys) each long₃ (omega (arith, length-starts (length iperm) keys)) first-places);
+                  (places-same (length iperm) keys next₃ (starts (length iperm) keys) each long₃ (omega (arith, length-starts (length iperm) keys)) first-places);
             }

@@ -1,14 +1,14 @@
 -- The pointers: a column begins behind all entries of the columns before it, and the counts of the entries give the pointers. Assumes nothing.
 use Prim.Native.Nat.{ℕ, zero, suc, _+_, _<_, _≤_}
 use mathlib.Core.Path.{_≡_, refl, sym, ap, _∙_}
-use mathlib.Core.List.{List, [], _∷_, _++_, map}
+use mathlib.Core.List.{List, [], _∷_, map}
 use native.Mathlib.Nat.{zero-add}
 use native.Mathlib.Omega.{arith}
-use lib.ListN.{length, getD, take, drop, replicate, length-replicate, getD-replicate, length-map, List·getD-append, length-append, length-drop}
-use lib.Seq.{ext-getD, getD-take, length-take-le, take-append-le, take-all}
-use Rattle.desk.specs.Lists.{tally, sums, from, upto, over}
+use lib.ListN.{length, getD, take}
+use lib.Seq.{ext-getD, getD-take, length-take-le}
+use Rattle.desk.specs.Lists.{tally, sums, from, upto}
 use Rattle.desk.proofs.Tally.{below, below-zero, below-suc}
-use Rattle.desk.proofs.Upto.{length-from, length-upto, getD-upto}
+use Rattle.desk.proofs.Upto.{length-upto, getD-upto}
 use Rattle.reorder.specs.Reorder.{starts}
 use Rattle.reorder.specs.Steps.{advanced}
 use Rattle.reorder.proofs.Steps.{advanced-at, length-advanced}
@@ -55,5 +55,5 @@ module _ (ks : List ℕ) where
       let size : length (take n (advanced ks next)) ≡ n = length-take-le n (advanced ks next) (omega (arith, length-advanced ks next)) in
       ext-getD 0 (take n (advanced ks next)) (map (λ c. tally c ks) (upto n)) (size ∙ sym (length-upto (λ c. tally c ks) n))
       (λ c h.
-          let k : c < n = omega arith in
-          getD-take n (advanced ks next) c 0 k ∙ advanced-at ks next c (omega arith) ∙ omega (arith, z c k) ∙ sym (getD-upto (λ c. tally c ks) 0 n c k))
+      let k : c < n = omega arith in
+      getD-take n (advanced ks next) c 0 k ∙ advanced-at ks next c (omega arith) ∙ omega (arith, z c k) ∙ sym (getD-upto (λ c. tally c ks) 0 n c k))

@@ -1,5 +1,5 @@
 -- One turn of a pass over the entries: with the keys ls done, what is left of the keys gives what all of them give. Assumes nothing.
-use Prim.Native.Nat.{ℕ, zero, suc, _+_, _-_, _<_, _≤_}
+use Prim.Native.Nat.{ℕ, suc, _+_, _<_, _≤_}
 use mathlib.Core.Path.{_≡_, refl, sym, ap, _∙_}
 use mathlib.Core.List.{List, [], _∷_, _++_, map, append-assoc}
 use native.Mathlib.Omega.{arith}
@@ -102,7 +102,7 @@ module _ {i m : ℕ} {ks₀ rs₀ : List ℕ} {vs₀ : List Float} {T₀ : Table
       let next = T .next in
       let size : length (places next ls) ≡ length ls = length-places ls next in
       let counted : i + length (places next ls) + length (places (advanced ls next) ks) ≡ m =
-          omega (arith, P .counted, length-append ls ks, length-places ks (advanced ls next)) in
+      omega (arith, P .counted, length-append ls ks, length-places ks (advanced ls next)) in
       let place′ : T′ .map ≡ written i m (places next ls) (places (advanced ls next) ks) (T .map) counted fits = rw size place in
       record {
         counted = omega (arith, P .counted, length-append ls ks);
@@ -165,9 +165,9 @@ placing-turn c j k row p v rows iperm vals T T′ {ks₀} {rs₀} {vs₀} {T₀}
     let rest = rowsOf iperm c (drop (suc j) rows) in
     let k-vals : j < length vals = omega arith in
     let first : Placing j (length rows) (k ∷ cols) (row ∷ rest) (v ∷ drop (suc j) vals) T ks₀ rs₀ vs₀ T₀ =
-        rw (ek, er, ev) (rw (drop-cons rows j 0 h, drop-cons vals j nan k-vals) at P) in
+    rw (ek, er, ev) (rw (drop-cons rows j 0 h, drop-cons vals j nan k-vals) at P) in
     let written : T′ .map ≡ take j (T .map) ++ (places (T .next) (k ∷ []) ++ drop (j + 1) (T .map)) =
-        place′ ∙ ap (set (T .map) j) ep ∙ (rw (add-one j) (set-split (T .map) j (getD (T .next) k 0) (omega arith))) in
+    place′ ∙ ap (set (T .map) j) ep ∙ (rw (add-one j) (set-split (T .map) j (getD (T .next) k 0) (omega arith))) in
     rw (← add-one j) at (placing-on {i = j} (k ∷ []) (row ∷ []) (v ∷ []) cols rest (drop (suc j) vals) T T′ fits refl refl moved rows′ values′ written first)
 
 pub placing-done : (m j : ℕ) (f g : ℕ → ℕ) (rows : List ℕ) (vs : List Float) (T : Tables) {ks₀ rs₀ : List ℕ} {vs₀ : List Float} {T₀ : Tables} → length rows ≤ j → Placing j m (map f (drop j rows)) (map g (drop j rows)) vs T ks₀ rs₀ vs₀ T₀ → T .next ≡ advanced ks₀ (T₀ .next) → Filled ks₀ rs₀ vs₀ (T₀ .next) (T .next) (T₀ .pr) (T .pr) (T₀ .pv) (T .pv) (T₀ .map) (T .map)

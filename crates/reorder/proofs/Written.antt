@@ -3,18 +3,13 @@ use Prim.Native.Nat.{ℕ, _<_, _≤_}
 use mathlib.Core.Path.{_≡_, ap, _∙_}
 use mathlib.Core.List.{List, _++_, append-nil}
 use native.Mathlib.Omega.{arith}
-use lib.ListN.{length, getD, take, drop, length-append, length-drop, drop-of-length-le, List·getD-append}
-use lib.Seq.{take-append-le}
+use lib.ListN.{length, getD, drop, length-append, length-drop, drop-of-length-le, List·getD-append}
 use Rattle.desk.specs.Lists.{over}
 
 module _ {A : Type 0} (new old : List A) where
   pub getD-over : (d : A) (c : ℕ) → c < length new → getD (over new old) c d ≡ getD new c d
   unfolding over
   getD-over d c h = List·getD-append new (drop (length new) old) d c h
-
-  pub take-over : (n : ℕ) → n ≤ length new → take n (over new old) ≡ take n new
-  unfolding over
-  take-over n h = take-append-le n new (drop (length new) old) h
 
   pub length-over : length new ≤ length old → length (over new old) ≡ length old
   unfolding over

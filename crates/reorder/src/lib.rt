@@ -80,7 +80,14 @@ fn copy_starts(pc: &[u32], n: usize, next: &mut [u32])
 }
 
 // Writes an entry to the next free place of column k, moves that on, and answers the place.
-fn place_entry(k: usize, row: u32, value: f64, next: &mut [u32], pr: &mut [u32], pv: &mut [f64]) -> u32
+fn place_entry(
+    k: usize,
+    row: u32,
+    value: f64,
+    next: &mut [u32],
+    pr: &mut [u32],
+    pv: &mut [f64],
+) -> u32
     requires { ⌜ k < length (now next) ⌝ }
     requires { ⌜ getD (now next) k 0 < roomOf (now pr) (now pv) ⌝ }
     ensures answer { λ r. ⌜ r ≡ getD (now (next .entry)) k 0 ⌝ }
@@ -144,7 +151,16 @@ fn fill_entries(
         let rows = column(colptr, rowval, c);
         let first = wide(colptr[c]);
         let last = wide(colptr[c + 1]);
-        fill_column(rows, &nzval[first..last], c, iperm, next, pr, pv, &mut map[first..last]);
+        fill_column(
+            rows,
+            &nzval[first..last],
+            c,
+            iperm,
+            next,
+            pr,
+            pv,
+            &mut map[first..last],
+        );
         c += 1;
     }
 }

@@ -1,10 +1,12 @@
-use denote.Ref.{now}
-use native.Mathlib.Omega.{arith}
-use borrow.Author.Needs.{needs}
+-- `reorder::accumulate` meets its contract. The invariant: the sum so far is the pointer of the column at hand, and the table's front is the
+-- pointers as far as that. The measure is how many columns are left. Assumes nothing.
 use Prim.Native.Nat.{ℕ, _≤_, _<_, _-_, _+_}
 use mathlib.Core.Path.{_≡_, refl, sym, ap, _∙_}
 use mathlib.Core.List.{List, [], _∷_, _++_}
+use native.Mathlib.Omega.{arith}
 use native.Mathlib.Numerals.{add-one}
+use borrow.Author.Needs.{needs}
+use denote.Ref.{now}
 use lib.ListN.{length, take, getD, set, length-set}
 use lib.Seq.{getD-take, length-take-le, drop-set-lt}
 use Rattle.desk.specs.Lists.{sums, over}
@@ -12,8 +14,6 @@ use Rattle.desk.proofs.Over.{front, front-more, front-length, front-all}
 use Rattle.reorder.proofs.Starts.{length-sums, sums-first, sums-next}
 use Rattle.reorder.proofs.accumulate.Statement.{statement}
 use Rattle.reorder.proofs.accumulate.Tie as tie
-use Rattle.reorder.proofs.accumulate.Reads as reads
-use Rattle.reorder.proofs.accumulate.Lts as lts
 
 abbrev Inv-loop : tie.InvT-loop
 Inv-loop next n pc₀ acc₀ c₀ pc acc c = (c ≤ n) × (acc ≡ getD (sums 0 (take n next)) c 0) × (pc ≡ front (sums 0 (take n next)) pc₀ (c + 1))
@@ -51,58 +51,45 @@ module _ (next pc₀ pc : List ℕ) (n c : ℕ) (hn : n ≤ length next) (hp : n
       ∙ front-all (sums 0 (take n next)) (set pc₀ 0 0) (c + 1) (omega (arith, long))
       ∙ ap (λ (l : List ℕ). sums 0 (take n next) ++ l) (drop-set-lt (length (sums 0 (take n next))) pc₀ 0 0 (omega (arith, long)))
 
--- src/lib.rt:59:5
 slice-write-pc : tie.Need-slice-write-pc Inv-loop μ-loop
 slice-write-pc c = search needs
 
--- src/lib.rt:62:5
 loop-holds : tie.Need-loop-holds Inv-loop μ-loop
 loop-holds c = (search needs, sym (sums-first 0 _), begun _ (now (c .args .pc)) (omega arith))
 
--- src/lib.rt:63:21
 mul-acc : tie.Need-mul-acc Inv-loop μ-loop
 mul-acc c = search needs
 
--- src/lib.rt:63:21
 shared-slice-read-acc : tie.Need-shared-slice-read-acc Inv-loop μ-loop
 shared-slice-read-acc c = search needs
 
--- src/lib.rt:63:15
 add-acc : tie.Need-add-acc Inv-loop μ-loop
 add-acc c = let at = c .before .before in omega (arith, next-sum _ _ _ _ (at .before .pre .0) (c .before .loop-test .taken) (at .loop .inv .1), at .before .pre .1 .1 (at .loop .c + 1) (omega (arith, c .before .loop-test .taken)))
 
--- src/lib.rt:64:12
 add-pc : tie.Need-add-pc Inv-loop μ-loop
 add-pc c = search needs
 
--- src/lib.rt:64:9
 mul-pc : tie.Need-mul-pc Inv-loop μ-loop
 mul-pc c = search needs
 
--- src/lib.rt:64:9
 slice-write-pc-2 : tie.Need-slice-write-pc-2 Inv-loop μ-loop
 slice-write-pc-2 c = let at = c .before .before in omega (arith, size _ (now (at .before .args .pc)) _ _ (at .loop .c) (at .before .pre .0) (at .before .pre .1 .0) (at .loop .inv .0) (at .loop .inv .2))
 
--- src/lib.rt:65:9
 add-c : tie.Need-add-c Inv-loop μ-loop
 add-c c = search needs
 
--- src/lib.rt:62:5
 loop-less : tie.Need-loop-less Inv-loop μ-loop
 loop-less c = search needs
 
--- src/lib.rt:62:5
 loop-again : tie.Need-loop-again Inv-loop μ-loop
 loop-again c =
     let at = c .before .before in
     let sum = next-sum _ _ _ _ (at .before .pre .0) (c .before .loop-test .taken) (at .loop .inv .1) in
     (search needs, sum, more _ (now (at .before .args .pc)) _ _ (at .loop .c) (at .before .pre .0) (at .before .pre .1 .0) _ (c .before .loop-test .taken) (at .loop .inv .2) sum)
 
--- src/lib.rt:53:1
 same-length : tie.Need-same-length Inv-loop μ-loop
 same-length c = let at = c .before in size _ (now (at .before .args .pc)) _ _ (at .loop .c) (at .before .pre .0) (at .before .pre .1 .0) (at .loop .inv .0) (at .loop .inv .2)
 
--- src/lib.rt:53:1
 returns : tie.Need-returns Inv-loop μ-loop
 returns c =
     let at = c .before in

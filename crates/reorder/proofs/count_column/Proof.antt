@@ -1,7 +1,9 @@
+-- `reorder::count_column` meets its contract. The invariant: what is left of the rows counts to what all of them do, with room for each.
+-- The measure is how many rows are left. Assumes nothing.
+use Prim.Native.Nat.{_≤_, _<_, _-_}
+use mathlib.Core.Path.{_≡_, refl, ap, _∙_}
 use native.Mathlib.Omega.{arith}
 use borrow.Author.Needs.{needs, scaled-fits}
-use Prim.Native.Nat.{ℕ, _≤_, _<_, _-_, _+_}
-use mathlib.Core.Path.{_≡_, refl, sym, ap, _∙_}
 use denote.Ref.{now}
 use lib.ListN.{length, drop, getD}
 use Rattle.reorder.specs.Reorder.{newCol}
@@ -9,10 +11,6 @@ use Rattle.reorder.specs.Steps.{colsOf, widest}
 use Rattle.reorder.proofs.Turns.{Left, key-next, key-room, left-turn, left-done}
 use Rattle.reorder.proofs.count_column.Statement.{statement}
 use Rattle.reorder.proofs.count_column.Tie as tie
-use Rattle.reorder.proofs.count_column.Reads as reads
-use Rattle.reorder.proofs.count_column.Lts as lts
-use Rattle.desk.proofs.wide.Reads as wide-reads
-use Rattle.reorder.proofs.max.Reads as max-reads
 
 abbrev Inv-loop : tie.InvT-loop
 Inv-loop rows c iperm next₀ at j₀ next j = (j ≤ length rows) × Left (length iperm) widest (colsOf iperm c (drop j rows)) next (colsOf iperm c rows) next₀
@@ -39,85 +37,65 @@ key c = c .wide2 .ensures ∙ c .before .max .ensures ∙ ap (newCol (now (entry
 taken : (c : tie.After-wide2 Inv-loop μ-loop) → turn c .loop .j < length (now (entry (turn c) .args .rows))
 taken c = c .before .before .before .before .before .loop-test .taken
 
--- src/lib.rt:30:14
 mul-at : tie.Need-mul-at Inv-loop μ-loop
 mul-at c = search needs
 
--- src/lib.rt:30:14
 shared-slice-read-at : tie.Need-shared-slice-read-at Inv-loop μ-loop
 shared-slice-read-at c = search needs
 
--- src/lib.rt:32:5
 loop-holds : tie.Need-loop-holds Inv-loop μ-loop
 loop-holds c = search needs
 
--- src/lib.rt:33:22
 mul-wide : tie.Need-mul-wide Inv-loop μ-loop
 mul-wide c = search needs
 
--- src/lib.rt:33:22
 shared-slice-read-wide : tie.Need-shared-slice-read-wide Inv-loop μ-loop
 shared-slice-read-wide c = search needs
 
--- src/lib.rt:33:13
 wide-requires : tie.Need-wide-requires Inv-loop μ-loop
 wide-requires c κs = search needs
 
--- src/lib.rt:34:26
 mul-max : tie.Need-mul-max Inv-loop μ-loop
 mul-max c = scaled-fits _ _ 4 (row c) (entry (c .before .before .before) .good .1 .1 .0 .1)
 
--- src/lib.rt:34:26
 shared-slice-read-max : tie.Need-shared-slice-read-max Inv-loop μ-loop
 shared-slice-read-max c = row (c .before)
 
--- src/lib.rt:34:22
 max-requires : tie.Need-max-requires Inv-loop μ-loop
 max-requires c κs = search needs
 
--- src/lib.rt:34:13
 wide-requires-2 : tie.Need-wide-requires-2 Inv-loop μ-loop
 wide-requires-2 c κs = search needs
 
--- src/lib.rt:35:19
 mul-next : tie.Need-mul-next Inv-loop μ-loop
 mul-next c = search needs
 
--- src/lib.rt:35:19
 slice-read-next : tie.Need-slice-read-next Inv-loop μ-loop
 slice-read-next c = let at = turn (c .before) in key-next (entry at .pre) _ _ _ (taken (c .before)) (key (c .before)) (at .loop .inv .1)
 
--- src/lib.rt:35:19
 add-next : tie.Need-add-next Inv-loop μ-loop
 add-next c = let at = turn (c .before) in omega (arith, key-room (entry at .pre) _ _ _ (taken (c .before)) (key (c .before)) (at .loop .inv .1))
 
--- src/lib.rt:35:9
 mul-next-2 : tie.Need-mul-next-2 Inv-loop μ-loop
 mul-next-2 c = search needs
 
--- src/lib.rt:35:9
 slice-write-next : tie.Need-slice-write-next Inv-loop μ-loop
 slice-write-next c = slice-read-next c
 
--- src/lib.rt:36:9
 add-j : tie.Need-add-j Inv-loop μ-loop
 add-j c = search needs
 
--- src/lib.rt:32:5
 loop-less : tie.Need-loop-less Inv-loop μ-loop
 loop-less c = search needs
 
--- src/lib.rt:32:5
 loop-again : tie.Need-loop-again Inv-loop μ-loop
 loop-again c =
     let at = turn (c .before) in
     (search needs, left-turn (entry at .pre) _ _ _ (taken (c .before)) (key (c .before)) (at .loop .inv .1) _ refl)
 
--- src/lib.rt:26:1
 same-length : tie.Need-same-length Inv-loop μ-loop
 same-length c = search needs
 
--- src/lib.rt:26:1
 returns : tie.Need-returns Inv-loop μ-loop
 returns c =
     let at = c .before in

@@ -1,9 +1,11 @@
-use borrow.Author.Needs.{needs}
-use Prim.Native.Nat.{ℕ, _≤_, _<_, _-_, _+_}
-use mathlib.Core.Path.{_≡_, refl, sym, ap, _∙_}
-use native.Mathlib.Omega.{arith}
-use denote.Ref.{now}
+-- `reorder::fill_entries` meets its contract. The invariant: what is left of the columns moves on, writes and maps to what all of them do.
+-- The measure is how many columns are left. Assumes nothing.
+use Prim.Native.Nat.{_≤_, _<_, _-_}
+use mathlib.Core.Path.{_≡_}
 use mathlib.Core.List.{List}
+use native.Mathlib.Omega.{arith}
+use borrow.Author.Needs.{needs}
+use denote.Ref.{now}
 use lib.ListN.{length, take, drop, getD}
 use Rattle.reorder.specs.Reorder.{newCols, newRows}
 use Rattle.reorder.specs.Steps.{roomOf, ColumnReady}
@@ -11,11 +13,6 @@ use Rattle.reorder.proofs.Turns.{Left, Tables, Placing}
 use Rattle.reorder.proofs.Passes.{colsFrom, rowsFrom, pass-all, pass-on, pass-done, column-ready, starts-below, ends-inside, long-lent, placing-begin, placing-pass, placing-end}
 use Rattle.reorder.proofs.fill_entries.Statement.{statement}
 use Rattle.reorder.proofs.fill_entries.Tie as tie
-use Rattle.reorder.proofs.fill_entries.Reads as reads
-use Rattle.reorder.proofs.fill_entries.Lts as lts
-use Rattle.csc.proofs.column.Reads as column-reads
-use Rattle.desk.proofs.wide.Reads as wide-reads
-use Rattle.reorder.proofs.fill_column.Reads as fill-column-reads
 
 abbrev Inv-loop : tie.InvT-loop
 Inv-loop colptr rowval nzval iperm next₀ pr₀ pv₀ map₀ c₀ next pr pv map c = (c ≤ length iperm) × Left (length iperm) (roomOf pr₀ pv₀) (colsFrom iperm colptr rowval c) next (newCols (length iperm) iperm colptr rowval) next₀ × Placing (getD colptr c 0) (length rowval) (colsFrom iperm colptr rowval c) (rowsFrom iperm colptr rowval c) (drop (getD colptr c 0) nzval) (record { next = next; pr = pr; pv = pv; map = map }) (newCols (length iperm) iperm colptr rowval) (newRows (length iperm) iperm colptr rowval) nzval (record { next = next₀; pr = pr₀; pv = pv₀; map = map₀ })
@@ -49,96 +46,74 @@ module _ (c : tie.After-wide2 Inv-loop μ-loop) where
   ready : ColumnReady (turn c .loop .c) (roomOf (now (entry (turn c) .args .pr)) (now (entry (turn c) .args .pv))) (now (c .before .before .before .before .column .result)) (now (entry (turn c) .args .iperm)) (turn c .loop .next)
   ready = column-ready (entry (turn c) .pre .0) _ _ (turn c .loop .inv .1) taken _ (c .before .before .before .before .column .ensures)
 
--- src/lib.rt:143:5
 loop-holds : tie.Need-loop-holds Inv-loop μ-loop
 loop-holds c =
     let start = c .before .before .before .before .before .before .before .before in
     (search needs, pass-all (start .pre .0), placing-begin (start .pre .0) (now (start .args .nzval)) _)
 
--- src/lib.rt:144:13
 column-requires : tie.Need-column-requires Inv-loop μ-loop
 column-requires c κs = search needs
 
--- src/lib.rt:145:26
 mul-wide : tie.Need-mul-wide Inv-loop μ-loop
 mul-wide c = search needs
 
--- src/lib.rt:145:26
 shared-slice-read-wide : tie.Need-shared-slice-read-wide Inv-loop μ-loop
 shared-slice-read-wide c = search needs
 
--- src/lib.rt:145:13
 wide-requires : tie.Need-wide-requires Inv-loop μ-loop
 wide-requires c κs = search needs
 
--- src/lib.rt:146:32
 add-wide : tie.Need-add-wide Inv-loop μ-loop
 add-wide c = search needs
 
--- src/lib.rt:146:25
 mul-wide-2 : tie.Need-mul-wide-2 Inv-loop μ-loop
 mul-wide-2 c = search needs
 
--- src/lib.rt:146:25
 shared-slice-read-wide-2 : tie.Need-shared-slice-read-wide-2 Inv-loop μ-loop
 shared-slice-read-wide-2 c = search needs
 
--- src/lib.rt:146:13
 wide-requires-2 : tie.Need-wide-requires-2 Inv-loop μ-loop
 wide-requires-2 c κs = search needs
 
--- src/lib.rt:147:27
 mul-fill-column : tie.Need-mul-fill-column Inv-loop μ-loop
 mul-fill-column c = let start = entry (turn c) in omega (arith, below c, inside c, start .pre .1 .0, start .good .1 .1 .0 .1)
 
--- src/lib.rt:147:27
 sub-fill-column : tie.Need-sub-fill-column Inv-loop μ-loop
 sub-fill-column c = below c
 
--- src/lib.rt:147:27
 part-fill-column-start : tie.Need-part-fill-column-start Inv-loop μ-loop
 part-fill-column-start c = below c
 
--- src/lib.rt:147:27
 part-fill-column-end : tie.Need-part-fill-column-end Inv-loop μ-loop
 part-fill-column-end c = omega (arith, inside c, entry (turn c) .pre .1 .0)
 
--- src/lib.rt:147:72
 mul-fill-column-2 : tie.Need-mul-fill-column-2 Inv-loop μ-loop
 mul-fill-column-2 c = search needs
 
--- src/lib.rt:147:72
 sub-fill-column-2 : tie.Need-sub-fill-column-2 Inv-loop μ-loop
 sub-fill-column-2 c = below (c .before .before .before .before)
 
--- src/lib.rt:147:72
 part-fill-column-start-2 : tie.Need-part-fill-column-start-2 Inv-loop μ-loop
 part-fill-column-start-2 c = below (c .before .before .before .before)
 
--- src/lib.rt:147:72
 part-fill-column-end-2 : tie.Need-part-fill-column-end-2 Inv-loop μ-loop
 part-fill-column-end-2 c = let w = c .before .before .before .before in omega (arith, inside w, entry (turn w) .pre .1 .1, turn w .loop .inv .2 .longMap)
 
--- src/lib.rt:147:9
 fill-column-requires : tie.Need-fill-column-requires Inv-loop μ-loop
 fill-column-requires c κs =
     let w = c .before .before .before .before .before in
     let at = turn w in
-    let start = entry at in
-    (
+    let start = entry at in (
       rw (at .loop .inv .2 .longRows, at .loop .inv .2 .longValues) (ready w),
       (lent w _ (omega (arith, start .pre .1 .0)), lent w _ (omega (arith, start .pre .1 .1, at .loop .inv .2 .longMap))),
     )
 
--- src/lib.rt:148:9
 add-c : tie.Need-add-c Inv-loop μ-loop
 add-c c = search needs
 
--- src/lib.rt:143:5
 loop-less : tie.Need-loop-less Inv-loop μ-loop
 loop-less c = search needs
 
--- src/lib.rt:143:5
 loop-again : tie.Need-loop-again Inv-loop μ-loop
 loop-again c =
     let filled = c .before .before .before .before .before .before .before .before in
@@ -146,30 +121,24 @@ loop-again c =
     let at = turn w in
     let start = entry at in
     let last = filled .fill-column .last .1 .1 .1 .1 in
-    let done = filled .fill-column .ensures in
-    (
+    let done = filled .fill-column .ensures in (
       search needs,
       pass-on (start .pre .0) _ _ (at .loop .inv .1) (taken w) _ (w .before .before .before .before .column .ensures) (last .0) (done .moved),
       placing-pass (start .pre .0) (at .loop .c) (taken w) _ (w .before .before .before .before .column .ensures) (w .before .before .wide .ensures) (w .wide2 .ensures) (now (start .args .nzval)) (tables at) (last .0) (last .1 .0) (last .1 .1 .1 .0) (last .1 .1 .0) (start .pre .1 .0) (omega (arith, start .pre .1 .1, at .loop .inv .2 .longMap)) done (at .loop .inv .2),
     )
 
--- src/lib.rt:127:1
 same-length : tie.Need-same-length Inv-loop μ-loop
 same-length c = search needs
 
--- src/lib.rt:127:1
 same-length-2 : tie.Need-same-length-2 Inv-loop μ-loop
 same-length-2 c = search needs
 
--- src/lib.rt:127:1
 same-length-3 : tie.Need-same-length-3 Inv-loop μ-loop
 same-length-3 c = search needs
 
--- src/lib.rt:127:1
 same-length-4 : tie.Need-same-length-4 Inv-loop μ-loop
 same-length-4 c = search needs
 
--- src/lib.rt:127:1
 returns : tie.Need-returns Inv-loop μ-loop
 returns c =
     let at = c .before in

@@ -28,8 +28,7 @@ accumulate-requires : tie.Need-accumulate-requires
 accumulate-requires c κs =
     let count = c .before .before .before .before in
     let clear = cleared count in
-    let R = entry clear .pre in
-    (
+    let R = entry clear .pre in (
       long₂ R _ (clear .fill .ensures) _ (count .count-entries .ensures),
       (R .roomPointers, small R _ (clear .fill .ensures) _ (count .count-entries .ensures)),
     )
@@ -43,8 +42,7 @@ fill-entries-requires c κs =
     let point = pointed copy in
     let count = counted point in
     let clear = cleared count in
-    let R = entry clear .pre in
-    (
+    let R = entry clear .pre in (
       fillable R _ (clear .fill .ensures) _ (count .count-entries .ensures) _ _ (point .accumulate .ensures) (copy .copy-starts .ensures),
       (R .values, R .roomMap),
     )
