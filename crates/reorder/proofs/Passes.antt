@@ -1,6 +1,6 @@
 -- One turn of a pass over the columns: with the rows of column c done, what is left of the entries gives what all of them give. Assumes nothing.
 use Prim.Native.Nat.{ℕ, _+_, _-_, _<_, _≤_}
-use mathlib.Core.Path.{_≡_, refl, sym, ap, _∙_}
+use mathlib.Core.Path.{_≡_, sym, ap, _∙_}
 use mathlib.Core.List.{List, _++_}
 use native.Mathlib.Nat.{sub-zero, zero-add}
 use native.Mathlib.Omega.{arith}
@@ -14,7 +14,7 @@ use Rattle.reorder.specs.Steps.{advanced, colsOf, rowsOf, ColumnReady, E
 use Rattle.reorder.proofs.Formed.{Formed, formed, ends, length-column, column-inside, entries-more, entries-none, length-entries}
 use Rattle.reorder.proofs.Steps.{room-first, length-places}
 use Rattle.reorder.proofs.Written.{over-whole}
-use Rattle.reorder.proofs.Turns.{Left, left-on, left-none, Tables, Placing, placing-all, placing-on, placing-none}
+use Rattle.reorder.proofs.Turns.{Left, left-all, left-on, left-none, Tables, Placing, placing-all, placing-on, placing-none}
 
 -- the new column, and the new row, of each entry from column c on
 abbrev pub colsFrom : List ℕ → List ℕ → List ℕ → ℕ → List ℕ
@@ -24,11 +24,11 @@ abbrev pub rowsFrom : List ℕ → List ℕ → List ℕ → ℕ → List ℕ
 rowsFrom iperm ptr rows c = perEntry (newRow iperm) ptr rows (from c (length iperm - c))
 
 module _ {m : ℕ} {ptr rows iperm next₀ : List ℕ} (E : EntriesReady m ptr rows iperm next₀) where
-  pub well : Formed (length iperm) ptr rows
+  well : Formed (length iperm) ptr rows
   well = formed (length iperm) ptr rows (E .pointers) (E .formed)
 
   pub pass-all : Left (length iperm) m (colsFrom iperm ptr rows 0) next₀ (newCols (length iperm) iperm ptr rows) next₀
-  pass-all = rw sub-zero record { long = refl; room = E .room; moved = refl }
+  pass-all = rw sub-zero (left-all (E .room))
 
   module _ (next : List ℕ) (c : ℕ) (L : Left (length iperm) m (colsFrom iperm ptr rows c) next (newCols (length iperm) iperm ptr rows) next₀) where
     pub pass-done : length iperm ≤ c → next ≡ advanced (newCols (length iperm) iperm ptr rows) next₀
@@ -67,7 +67,7 @@ module _ {m : ℕ} {ptr rows iperm next₀ : List ℕ} (E : EntriesReady m ptr r
     pub ends-inside : z ≤ length rows
     ends-inside = omega (arith, ends well c h)
 
-    pub long-part : a + length part ≡ z
+    long-part : a + length part ≡ z
     long-part = omega (arith, length-column well c h, ap length e)
 
     pub long-lent : {A : Type 0} (l : List A) → length rows ≤ length l → length (take (z - a) (drop a l)) ≡ length part

@@ -18,7 +18,7 @@ bump next k = set next k (getD next k 0 + 1)
 bump-here : (next ks : List ℕ) (c : ℕ) → c < length next → getD (bump next c) c 0 + tally c ks ≡ getD next c 0 + tally c (c ∷ ks)
 bump-here next ks c h = omega (arith, getD-set-same next c (getD next c 0 + 1) 0 h, tally-here c ks)
 
--- what a column has taken and what it still has to take are ls many ls before
+-- what a column has taken and what it still has to take are as many as before
 pub bump-kept : (next ks : List ℕ) (k c : ℕ) → c < length next → getD (bump next k) c 0 + tally c ks ≡ getD next c 0 + tally c (k ∷ ks)
 bump-kept next ks k c h =
     elim (ℕ-discrete k c) [

@@ -42,7 +42,7 @@ pub record Tables : Type 0 where
   pub pv : List Float
   pub map : List ℕ
 
--- the entries with the keys ks, the rows rs and the values vs are left to place; the map is written qs far qs i, of m
+-- the entries with the keys ks, the rows rs and the values vs are left to place; the map is written as far as i, of m
 pub record Placing (i m : ℕ) (ks rs : List ℕ) (vs : List Float) (T : Tables) (ks₀ rs₀ : List ℕ) (vs₀ : List Float) (T₀ : Tables) : Type 0 where
   pub counted : i + length ks ≡ m
   pub longRows : length (T .pr) ≡ length (T₀ .pr)
@@ -65,7 +65,7 @@ placing-all m ks rs vs T e =
       place = rw (length-places, e);
     }
 
--- a list whose places from i on are ps
+-- the list l with ps written at i; qs are left to write, up to m
 module _ (i m : ℕ) (ps qs l : List ℕ) (counted : i + length ps + length qs ≡ m) (fits : m ≤ length l) where
   abbrev written : List ℕ
   written = take i l ++ (ps ++ drop (i + length ps) l)
@@ -98,7 +98,7 @@ module _ {i m : ℕ} {ks₀ rs₀ : List ℕ} {vs₀ : List Float} {T₀ : Table
   pub placing-on : (ls qs : List ℕ) (ws : List Float) (ks rs : List ℕ) (vs : List Float) (T T′ : Tables) → m ≤ length (T .map) → length qs ≡ length ls → length ws ≡ length ls →
       T′ .next ≡ advanced ls (T .next) → T′ .pr ≡ placed (places (T .next) ls) qs (T .pr) → T′ .pv ≡ placed (places (T .next) ls) ws (T .pv) → T′ .map ≡ take i (T .map) ++ (places (T .next) ls ++ drop (i + length ls) (T .map)) →
       Placing i m (ls ++ ks) (qs ++ rs) (ws ++ vs) T ks₀ rs₀ vs₀ T₀ → Placing (i + length ls) m ks rs vs T′ ks₀ rs₀ vs₀ T₀
-  placing-on ls qs ws ks rs vs T T′ fits ea eb moved rows values place P =
+  placing-on ls qs ws ks rs vs T T′ fits eq ew moved rows values place P =
       let next = T .next in
       let size : length (places next ls) ≡ length ls = length-places ls next in
       let counted : i + length (places next ls) + length (places (advanced ls next) ks) ≡ m =
@@ -110,10 +110,10 @@ module _ {i m : ℕ} {ks₀ rs₀ : List ℕ} {vs₀ : List Float} {T₀ : Table
         longValues = ap length values ∙ length-placed (places next ls) ws (T .pv) ∙ P .longValues;
         longMap = ap length place′ ∙ length-written i m (places next ls) (places (advanced ls next) ks) (T .map) counted fits ∙ P .longMap;
         rows =
-            rw (moved, rows, ← placed-append (places next ls) (places (advanced ls next) ks) qs rs (T .pr) (size ∙ sym ea), ← places-append ls ks next)
+            rw (moved, rows, ← placed-append (places next ls) (places (advanced ls next) ks) qs rs (T .pr) (size ∙ sym eq), ← places-append ls ks next)
             (P .rows);
         values =
-            rw (moved, values, ← placed-append (places next ls) (places (advanced ls next) ks) ws vs (T .pv) (size ∙ sym eb), ← places-append ls ks next)
+            rw (moved, values, ← placed-append (places next ls) (places (advanced ls next) ks) ws vs (T .pv) (size ∙ sym ew), ← places-append ls ks next)
             (P .values);
         place =
             rw (moved, place′, ← size)
@@ -151,7 +151,7 @@ module _ {c m : ℕ} {rows iperm next₀ : List ℕ} (R : ColumnReady c m rows i
       rw add-one
       (left-on (length iperm) m (k ∷ []) (colsOf iperm c (drop (suc j) rows)) next next′ (colsOf iperm c rows) next₀ (omega (arith, R .long, L .long)) moved keyed)
 
--- the last turn is past
+-- no row is left
 pub left-done : (n m j : ℕ) (f : ℕ → ℕ) (rows next ks₀ next₀ : List ℕ) → length rows ≤ j → Left n m (map f (drop j rows)) next ks₀ next₀ → next ≡ advanced ks₀ next₀
 left-done n m j f rows next ks₀ next₀ h L = left-none n m next ks₀ next₀ (rw (drop-of-length-le rows {i = j} h) at L)
 
@@ -163,9 +163,9 @@ unfolding advanced places placed
 placing-turn c j k row p v rows iperm vals T T′ {ks₀} {rs₀} {vs₀} {T₀} h same fits ek er ev ep moved rows′ values′ place′ P =
     let cols = colsOf iperm c (drop (suc j) rows) in
     let rest = rowsOf iperm c (drop (suc j) rows) in
-    let k-vals : j < length vals = omega arith in
+    let inside : j < length vals = omega arith in
     let first : Placing j (length rows) (k ∷ cols) (row ∷ rest) (v ∷ drop (suc j) vals) T ks₀ rs₀ vs₀ T₀ =
-    rw (ek, er, ev) (rw (drop-cons rows j 0 h, drop-cons vals j nan k-vals) at P) in
+    rw (ek, er, ev) (rw (drop-cons rows j 0 h, drop-cons vals j nan inside) at P) in
     let written : T′ .map ≡ take j (T .map) ++ (places (T .next) (k ∷ []) ++ drop (j + 1) (T .map)) =
     place′ ∙ ap (set (T .map) j) ep ∙ (rw (add-one j) (set-split (T .map) j (getD (T .next) k 0) (omega arith))) in
     rw (← add-one j) at (placing-on {i = j} (k ∷ []) (row ∷ []) (v ∷ []) cols rest (drop (suc j) vals) T T′ fits refl refl moved rows′ values′ written first)

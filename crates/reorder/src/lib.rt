@@ -125,7 +125,8 @@ fn fill_column(
         let r = wide(rows[j]);
         let row = iperm[r];
         let k = wide(max(row, at));
-        map[j] = place_entry(k, min(row, at), vals[j], next, pr, pv);
+        let place = place_entry(k, min(row, at), vals[j], next, pr, pv);
+        map[j] = place;
         j += 1;
     }
 }

@@ -30,15 +30,15 @@ row c =
     let at = c .before .before .before in
     rw (c .wide .ensures) (entry at .pre .0 .inside (at .loop .j) (c .before .before .loop-test .taken))
 
--- its new column
+-- its new column, and its new row
 abbrev turn : tie.After-wide2 Inv-loop μ-loop → tie.At-loop Inv-loop μ-loop
 turn c = c .before .before .before .before .before .before
 
 key : (c : tie.After-wide2 Inv-loop μ-loop) → c .wide2 .result ≡ newCol (now (entry (turn c) .args .iperm)) (entry (turn c) .args .c) (getD (now (entry (turn c) .args .rows)) (turn c .loop .j) 0)
 key c = c .wide2 .ensures ∙ c .before .max .ensures ∙ ap (newCol (now (entry (turn c) .args .iperm)) (entry (turn c) .args .c)) (c .before .before .before .wide .ensures)
 
-newest : (c : tie.After-min Inv-loop μ-loop) → c .min .result ≡ newRow (now (entry (turn (c .before)) .args .iperm)) (entry (turn (c .before)) .args .c) (getD (now (entry (turn (c .before)) .args .rows)) (turn (c .before) .loop .j) 0)
-newest c =
+new-row : (c : tie.After-min Inv-loop μ-loop) → c .min .result ≡ newRow (now (entry (turn (c .before)) .args .iperm)) (entry (turn (c .before)) .args .c) (getD (now (entry (turn (c .before)) .args .rows)) (turn (c .before) .loop .j) 0)
+new-row c =
     let at = turn (c .before) in
     c .min .ensures ∙ ap (newRow (now (entry at .args .iperm)) (entry at .args .c)) (c .before .before .before .before .wide .ensures)
 
@@ -125,7 +125,7 @@ loop-again c =
       search needs,
       left-turn (entry at .pre .0) _ _ _ (taken k) (key k) (at .loop .inv .1) _ (done .1 .0),
       placing-turn (args .c) (at .loop .j) (k .wide2 .result) _ _ _ (now (args .rows)) (now (args .iperm)) (now (args .vals)) (tables at) T′ (taken k) (entry at .pre .1 .0)
-          (omega (arith, entry at .pre .1 .1, at .loop .inv .2 .longMap)) (key k) (newest least) refl (done .0) (done .1 .0) (done .1 .1 .0) (done .1 .1 .1) refl (at .loop .inv .2),
+          (omega (arith, entry at .pre .1 .1, at .loop .inv .2 .longMap)) (key k) (new-row least) refl (done .0) (done .1 .0) (done .1 .1 .0) (done .1 .1 .1) refl (at .loop .inv .2),
     )
 
 same-length : tie.Need-same-length Inv-loop μ-loop
