@@ -1,0 +1,8 @@
+pub mod Formed
+pub mod Gather
+pub mod Passes
+pub mod Phases
+pub mod Starts
+pub mod Steps
+pub mod Turns
+pub mod Written
