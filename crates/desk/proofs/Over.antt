@@ -1,12 +1,12 @@
 -- Laws of a buffer whose front is written place by place: y's first i, and then what lay there. Assumes nothing.
-use Prim.Native.Nat.{ℕ, zero, suc, _+_, _<_, _≤_}
-use mathlib.Core.Path.{_≡_, refl, sym, ap, _∙_}
-use mathlib.Core.List.{List, [], _∷_, _++_}
+use Prim.Native.Nat.{ℕ, _+_, _<_, _≤_}
+use mathlib.Core.Path.{_≡_, ap, _∙_}
+use mathlib.Core.List.{List, _++_, append-nil}
 use native.Mathlib.Nat.{zero-add}
 use native.Mathlib.Numerals.{add-one}
 use native.Mathlib.Omega.{arith}
-use lib.ListN.{length, getD, take, drop, set, replicate, length-append, length-replicate, length-drop, List·getD-append}
-use lib.Seq.{paste-suc, take-length, length-take-le, drop-append-seam}
+use lib.ListN.{length, getD, take, drop, set, replicate, length-append, length-replicate, length-drop, drop-of-length-le, List·getD-append}
+use lib.Seq.{paste-suc, take-length, length-take-le, take-append-seam, drop-append-seam}
 use Rattle.desk.specs.Lists.{over}
 
 module _ {A : Type 0} (y x : List A) where
@@ -23,18 +23,27 @@ module _ {A : Type 0} (y x : List A) where
   unfolding over
   front-all i e = rw (e, take-length)
 
+  pub length-over : length y ≤ length x → length (over y x) ≡ length x
+  unfolding over
+  length-over h = length-append y (drop (length y) x) ∙ omega (arith, length-drop (length y) x)
+
+  pub getD-over : (d : A) (i : ℕ) → i < length y → getD (over y x) i d ≡ getD y i d
+  unfolding over
+  getD-over d i h = List·getD-append y (drop (length y) x) d i h
+
+  pub take-over : take (length y) (over y x) ≡ y
+  unfolding over
+  take-over = take-append-seam y (drop (length y) x)
+
+  -- where the front is all of it
+  pub over-whole : length x ≤ length y → over y x ≡ y
+  unfolding over
+  over-whole h = ap (λ (l : List A). y ++ l) (drop-of-length-le x h) ∙ append-nil y
+
 -- what is written over a front just as long
 pub over-over : {A : Type 0} (y z x : List A) → length y ≡ length z → over y (over z x) ≡ over y x
 unfolding over
 over-over y z x e = rw (e, drop-append-seam z (drop (length z) x))
-
-pub length-over : {A : Type 0} (y x : List A) → length y ≤ length x → length (over y x) ≡ length x
-unfolding over
-length-over y x h = length-append y (drop (length y) x) ∙ omega (arith, length-drop (length y) x)
-
-pub getD-over : {A : Type 0} (y x : List A) (i : ℕ) (d : A) → i < length y → getD (over y x) i d ≡ getD y i d
-unfolding over
-getD-over y x i d h = List·getD-append y (drop (length y) x) d i h
 
 pub length-filled : {A : Type 0} (n : ℕ) (v : A) (x : List A) → n ≤ length x → length (over (replicate n v) x) ≡ length x
 length-filled n v x h = length-over (replicate n v) x (omega (arith, length-replicate n v))

@@ -183,7 +183,7 @@ unfolding tally
 inverting-none p s t e = record {
   inside = λ k h. absurd (omega arith);
   once = λ v h. omega arith;
-  empty = λ v h z. ap (λ (l : List ℕ). getD l v 0) e ∙ getD-over (replicate (length p) unset) t v 0 (omega (arith, length-replicate (length p) unset)) ∙ getD-replicate (length p) v unset 0 h;
+  empty = λ v h z. ap (λ (l : List ℕ). getD l v 0) e ∙ getD-over (replicate (length p) unset) t 0 v (omega (arith, length-replicate (length p) unset)) ∙ getD-replicate (length p) v unset 0 h;
   sent = sent-none 0 p _ s;
 }
 

@@ -1,9 +1,8 @@
 -- What a matrix that is not malformed has, and what follows of its columns and of what is said of each entry. Assumes nothing.
 use Prim.Native.Nat.{ℕ, zero, suc, _+_, _-_, _<_, _≤_}
-use mathlib.Core.Path.{_≡_, refl, sym, ap}
-use mathlib.Core.Bool.{Bool, true, false, not, _||_, false≢true}
+use mathlib.Core.Path.{_≡_, refl, ap}
+use mathlib.Core.Bool.{false, not, _||_}
 use mathlib.Core.List.{List, [], _∷_, _++_, map}
-use native.Mathlib.Decide.{ℕ-discrete}
 use native.Mathlib.Numerals.{add-one}
 use native.Mathlib.Omega.{arith}
 use borrow.Author.Tests.{not-false, eqb-true, ltb-false, leb-false}
@@ -11,27 +10,12 @@ use lib.Dec.{eqb, leb, ltb}
 use lib.ListN.{length, getD, take, drop, length-drop, length-append, length-map}
 use lib.Seq.{getD-take, getD-drop, length-take-le}
 use Rattle.desk.specs.Lists.{any, from, joinAll}
+use Rattle.desk.proofs.Any.{none-at, none-from}
+use Rattle.desk.proofs.Both.{neither}
 use Rattle.csc.specs.Csc.{column, fall, badPointers, malformed}
 use Rattle.csc.proofs.Columns.{column-part}
 use Rattle.reorder.specs.Reorder.{perEntry}
 use Rattle.reorder.proofs.Gather.{Each}
-
-neither : (x y : Bool) → (x || y) ≡ false → (x ≡ false) × (y ≡ false)
-neither true y h = absurd (false≢true (sym h))
-neither false y h = (refl, h)
-
-none-at : {A : Type 0} (p : A → Bool) (d : A) (l : List A) → any p l ≡ false → (j : ℕ) → j < length l → p (getD l j d) ≡ false
-unfolding any
-none-at p d [] e j h = absurd (omega arith)
-none-at p d (x ∷ l) e zero h = neither (p x) (any p l) e .0
-none-at p d (x ∷ l) e (suc j) h = none-at p d l (neither (p x) (any p l) e .1) j (omega arith)
-
-none-from : (p : ℕ → Bool) (i k v : ℕ) → any p (from i k) ≡ false → i ≤ v → v < i + k → p v ≡ false
-unfolding any from
-none-from p i zero v e l u = absurd (omega arith)
-none-from p i (suc k) v e l u =
-    let b = neither (p i) (any p (from (suc i) k)) e in
-    elim (ℕ-discrete i v) [ yes q ↦ rw q at (b .0) | no ne ↦ none-from p (suc i) k v (b .1) (omega arith) (omega arith) ]
 
 pub record Formed (n : ℕ) (ptr rows : List ℕ) : Type 0 where
   pub pointers : length ptr ≡ n + 1

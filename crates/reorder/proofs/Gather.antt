@@ -61,7 +61,7 @@ module _ {A : Type 0} where
   unfolding inColumn
   inColumn-past c k ks x xs ne = rw (ne-eqb k c ne)
 
-  length-inColumn : (c : ℕ) (ks : List ℕ) (xs : List A) → length xs ≡ length ks → length (inColumn c ks xs) ≡ tally c ks
+  pub length-inColumn : (c : ℕ) (ks : List ℕ) (xs : List A) → length xs ≡ length ks → length (inColumn c ks xs) ≡ tally c ks
   unfolding inColumn tally
   length-inColumn c [] xs e = refl
   length-inColumn c (k ∷ ks) [] e = absurd (omega arith)

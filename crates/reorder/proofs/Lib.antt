@@ -5,4 +5,4 @@ pub mod Phases
 pub mod Starts
 pub mod Steps
 pub mod Turns
-pub mod Written
+pub mod Upper

@@ -13,7 +13,7 @@ use Rattle.reorder.specs.Reorder.{newCol, newRow, newCols, newRows, perE
 use Rattle.reorder.specs.Steps.{advanced, colsOf, rowsOf, ColumnReady, EntriesReady, Filled}
 use Rattle.reorder.proofs.Formed.{Formed, formed, ends, length-column, column-inside, entries-more, entries-none, length-entries}
 use Rattle.reorder.proofs.Steps.{room-first, length-places}
-use Rattle.reorder.proofs.Written.{over-whole}
+use Rattle.desk.proofs.Over.{over-whole}
 use Rattle.reorder.proofs.Turns.{Left, left-all, left-on, left-none, Tables, Placing, placing-all, placing-on, placing-none}
 
 -- the new column, and the new row, of each entry from column c on

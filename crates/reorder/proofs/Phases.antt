@@ -16,7 +16,7 @@ use Rattle.reorder.proofs.Formed.{Formed, formed, length-entries, each-
 use Rattle.reorder.proofs.Gather.{Each, fills, places-same}
 use Rattle.reorder.proofs.Starts.{length-starts, starts-at, counts}
 use Rattle.reorder.proofs.Steps.{length-advanced}
-use Rattle.reorder.proofs.Written.{getD-over, length-over}
+use Rattle.desk.proofs.Over.{getD-over, length-over}
 
 module _ {iperm map₀ next₀ : List ℕ} {A P : Csc} (R : Reorderable iperm A P map₀ next₀) where
   well : Formed (length iperm) (A .colptr) (A .rowval)

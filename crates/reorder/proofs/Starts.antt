@@ -18,15 +18,15 @@ unfolding sums
 length-sums s [] = refl
 length-sums s (x ∷ xs) = ap suc (length-sums (s + x) xs)
 
-pub sums-first : (s : ℕ) (xs : List ℕ) → getD (sums s xs) 0 0 ≡ s
+pub sums-first : (s : ℕ) (xs : List ℕ) (d : ℕ) → getD (sums s xs) 0 d ≡ s
 unfolding sums
-sums-first s [] = refl
-sums-first s (x ∷ xs) = refl
+sums-first s [] d = refl
+sums-first s (x ∷ xs) d = refl
 
 pub sums-next : (s : ℕ) (xs : List ℕ) (c : ℕ) → c < length xs → getD (sums s xs) (suc c) 0 ≡ getD (sums s xs) c 0 + getD xs c 0
 unfolding sums
 sums-next s [] c h = absurd (omega arith)
-sums-next s (x ∷ xs) zero h = sums-first (s + x) xs
+sums-next s (x ∷ xs) zero h = sums-first (s + x) xs 0
 sums-next s (x ∷ xs) (suc c) h = sums-next (s + x) xs c (omega arith)
 
 pub length-starts : (n : ℕ) (ks : List ℕ) → length (starts n ks) ≡ suc n

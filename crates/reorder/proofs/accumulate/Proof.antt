@@ -55,7 +55,7 @@ slice-write-pc : tie.Need-slice-write-pc Inv-loop μ-loop
 slice-write-pc c = search needs
 
 loop-holds : tie.Need-loop-holds Inv-loop μ-loop
-loop-holds c = (search needs, sym (sums-first 0 _), begun _ (now (c .args .pc)) (omega arith))
+loop-holds c = (search needs, sym (sums-first 0 _ 0), begun _ (now (c .args .pc)) (omega arith))
 
 mul-acc : tie.Need-mul-acc Inv-loop μ-loop
 mul-acc c = search needs
