@@ -1,11 +1,11 @@
 -- Laws of a buffer whose front is written place by place: y's first i, and then what lay there. Assumes nothing.
 use Prim.Native.Nat.{ℕ, _+_, _<_, _≤_}
-use mathlib.Core.Path.{_≡_, ap, _∙_}
+use mathlib.Core.Path.{_≡_, sym, ap, _∙_}
 use mathlib.Core.List.{List, _++_, append-nil}
 use native.Mathlib.Nat.{zero-add}
 use native.Mathlib.Numerals.{add-one}
 use native.Mathlib.Omega.{arith}
-use lib.ListN.{length, getD, take, drop, set, replicate, length-append, length-replicate, length-drop, drop-of-length-le, List·getD-append}
+use lib.ListN.{length, getD, take, drop, set, replicate, length-append, length-replicate, getD-replicate, length-drop, drop-of-length-le, List·getD-append}
 use lib.Seq.{paste-suc, take-length, length-take-le, take-append-seam, drop-append-seam}
 use Rattle.desk.specs.Lists.{over}
 
@@ -47,3 +47,16 @@ over-over y z x e = rw (e, drop-append-seam z (drop (length z) x))
 
 pub length-filled : {A : Type 0} (n : ℕ) (v : A) (x : List A) → n ≤ length x → length (over (replicate n v) x) ≡ length x
 length-filled n v x h = length-over (replicate n v) x (omega (arith, length-replicate n v))
+
+-- a front that is filled with one value
+module _ {A : Type 0} (n : ℕ) (v : A) (x : List A) (long : n ≤ length x) where
+  pub fill-more : (i : ℕ) → i < n → (l : List A) → l ≡ front (replicate n v) x i → set l i v ≡ front (replicate n v) x (i + 1)
+  fill-more i h l e =
+      rw e (ap (set (front (replicate n v) x i) i) (sym (getD-replicate n i v v h))
+      ∙ front-more (replicate n v) x v i (omega (arith, length-replicate n v)) (omega arith))
+
+  pub fill-size : (i : ℕ) → i ≤ n → (l : List A) → l ≡ front (replicate n v) x i → length l ≡ length x
+  fill-size i h l e = ap length e ∙ front-length (replicate n v) x i (omega (arith, length-replicate n v)) (omega arith)
+
+  pub fill-all : (i : ℕ) → i ≤ n → n ≤ i → (l : List A) → l ≡ front (replicate n v) x i → l ≡ over (replicate n v) x
+  fill-all i h g l e = e ∙ front-all (replicate n v) x i (omega (arith, length-replicate n v))

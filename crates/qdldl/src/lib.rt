@@ -2,9 +2,12 @@
 ghost use mathlib.Core.Path.{_≡_};
 ghost use mathlib.Core.List.{[], _∷_};
 ghost use Prim.Native.Nat.{_≤_};
+ghost use lib.IntN.{pos};
+ghost use lib.ListN.{length, replicate};
+ghost use Rattle.desk.specs.Lists.{over};
 ghost use Rattle.csc.specs.Csc.{matrix};
-ghost use Rattle.qdldl.specs.Steps.{Judged};
-ghost use Rattle.qdldl.specs.Analysis.{written, analysisLent, badLengths};
+ghost use Rattle.qdldl.specs.Steps.{Judged, SignsFit};
+ghost use Rattle.qdldl.specs.Analysis.{written, analysisLent, badLengths, newSigns};
 use desk::Refusal;
 use desk::Verdict;
 
@@ -136,4 +139,28 @@ fn judge(
         return Verdict::Accepted;
     }
     Verdict::Refused(Refusal::InvalidPermutation)
+}
+
+// Writes the sign +1 to the first n places.
+fn plus_signs(dsigns: &mut [i8], n: usize)
+    requires { ⌜ n ≤ length (now dsigns) ⌝ }
+    ensures { λ _. ⌜ now (dsigns .exit) ≡ over (replicate n (pos 1)) (now (dsigns .entry)) ⌝ }
+{
+    let mut i: usize = 0;
+    while i < n {
+        dsigns[i] = 1;
+        i += 1;
+    }
+}
+
+// Writes the signs in the new order.
+fn permuted_signs(perm: &[u32], signs: &[i8], dsigns: &mut [i8])
+    requires { ⌜ SignsFit (now perm) (now signs) (now dsigns) ⌝ }
+    ensures { λ _. ⌜ now (dsigns .exit) ≡ over (newSigns (length (now (perm .entry))) (now (perm .entry)) (now (signs .entry))) (now (dsigns .entry)) ⌝ }
+{
+    if signs.len() == 0 {
+        plus_signs(dsigns, perm.len());
+    } else {
+        order::permute_signs(dsigns, signs, perm);
+    }
 }

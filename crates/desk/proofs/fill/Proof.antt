@@ -1,13 +1,12 @@
 -- `desk::fill` meets its contract. The invariant: the table's front is v as far as the loop has come.
 -- The measure is how many places are left. Assumes nothing.
-use Prim.Native.Nat.{ℕ, _≤_, _<_, _-_}
-use mathlib.Core.Path.{_≡_, refl, sym, ap, _∙_}
-use mathlib.Core.List.{List}
+use Prim.Native.Nat.{_≤_, _-_}
+use mathlib.Core.Path.{_≡_}
 use native.Mathlib.Omega.{arith}
 use borrow.Author.Needs.{needs}
 use denote.Ref.{now}
-use lib.ListN.{length, replicate, set, length-replicate, getD-replicate}
-use Rattle.desk.proofs.Over.{front, front-more, front-length, front-all}
+use lib.ListN.{length, replicate}
+use Rattle.desk.proofs.Over.{front, fill-more, fill-size, fill-all}
 use Rattle.desk.proofs.fill.Statement.{statement}
 use Rattle.desk.proofs.fill.Tie as tie
 
@@ -17,8 +16,8 @@ Inv-loop xs₀ n v i₀ xs i = (i ≤ n) × (xs ≡ front (replicate n v) xs₀ 
 abbrev μ-loop : tie.MeasureT-loop
 μ-loop xs₀ n v i₀ xs i = n - i
 
-size : (xs₀ xs : List ℕ) (n v i : ℕ) → n ≤ length xs₀ → i ≤ n → xs ≡ front (replicate n v) xs₀ i → length xs ≡ length xs₀
-size xs₀ xs n v i h le e = ap length e ∙ front-length (replicate n v) xs₀ i (omega (arith, length-replicate n v)) (omega arith)
+size : (at : tie.At-loop Inv-loop μ-loop) → length (at .loop .xs) ≡ length (now (at .before .args .xs))
+size at = fill-size _ (at .before .args .v) _ (at .before .pre) _ (at .loop .inv .0) _ (at .loop .inv .1)
 
 loop-holds : tie.Need-loop-holds Inv-loop μ-loop
 loop-holds c = search needs
@@ -27,8 +26,7 @@ mul-xs : tie.Need-mul-xs Inv-loop μ-loop
 mul-xs c = search needs
 
 slice-write-xs : tie.Need-slice-write-xs Inv-loop μ-loop
-slice-write-xs c =
-    let at = c .before in omega (arith, size _ _ _ (at .before .args .v) _ (at .before .pre) (at .loop .inv .0) (at .loop .inv .1))
+slice-write-xs c = omega (arith, size (c .before), c .before .before .pre)
 
 add-i : tie.Need-add-i Inv-loop μ-loop
 add-i c = search needs
@@ -39,22 +37,15 @@ loop-less c = search needs
 loop-again : tie.Need-loop-again Inv-loop μ-loop
 loop-again c =
     let at = c .before in
-    let n = at .before .args .n in
-    let v = at .before .args .v in
-    let i = at .loop .i in (
-      omega arith,
-      ap (λ (l : List ℕ). set l i v) (at .loop .inv .1)
-          ∙ ap (λ (x : ℕ). set (front (replicate n v) (now (at .before .args .xs)) i) i x) (sym (getD-replicate n i v 0 (c .loop-test .taken)))
-          ∙ front-more (replicate n v) (now (at .before .args .xs)) 0 i (omega (arith, length-replicate n v)) (omega (arith, at .before .pre)),
-    )
+    (omega arith, fill-more _ (at .before .args .v) _ (at .before .pre) _ (c .loop-test .taken) _ (at .loop .inv .1))
 
 same-length : tie.Need-same-length Inv-loop μ-loop
-same-length c = let at = c .before in size _ _ _ (at .before .args .v) _ (at .before .pre) (at .loop .inv .0) (at .loop .inv .1)
+same-length c = size (c .before)
 
 returns : tie.Need-returns Inv-loop μ-loop
 returns c =
     let at = c .before in
-    at .loop .inv .1 ∙ front-all (replicate (at .before .args .n) (at .before .args .v)) (now (at .before .args .xs)) (at .loop .i) (omega (arith, length-replicate (at .before .args .n) (at .before .args .v)))
+    fill-all _ (at .before .args .v) _ (at .before .pre) _ (at .loop .inv .0) (c .loop-test .left) _ (at .loop .inv .1)
 
 pub fill-spec : {M : Type 1} → statement M
 fill-spec = tie.close (tie.spec Inv-loop μ-loop loop-holds mul-xs slice-write-xs add-i loop-less loop-again same-length returns)
