@@ -7,11 +7,17 @@ ghost use Rattle.tree.specs.Tree.{Upper, Treed};
 use desk::wide;
 
 // Writes the parent of each unknown to the front of etree, and how many rows its column of L lists to the front of lnz. work is scratch.
-pub fn etree(n: usize, colptr: &[u32], rowval: &[u32], work: &mut [u32], lnz: &mut [u32], etree: &mut [u32])
+pub fn etree(
+    n: usize,
+    colptr: &[u32],
+    rowval: &[u32],
+    work: &mut [u32],
+    lnz: &mut [u32],
+    etree: &mut [u32],
+)
     requires { ⌜ Upper n (now colptr) (now rowval) (now work) (now lnz) (now etree) ⌝ }
     ensures { λ _. ⌜ Treed n (now (colptr .entry)) (now (rowval .entry)) (now (lnz .entry)) (now (lnz .exit)) (now (etree .entry)) (now (etree .exit)) ⌝ }
-{
-}
+{}
 
 // The sum of the counts: how many entries L has.
 pub fn sum(lnz: &[u32]) -> usize
