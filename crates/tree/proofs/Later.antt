@@ -4,7 +4,7 @@ use mathlib.Core.Path.{_≡_, refl, sym, ap, _∙_}
 use mathlib.Core.Bool.{Bool, true, false, cond, true≢false}
 use mathlib.Core.List.{List, [], _∷_, _++_, map, append-nil}
 use native.Mathlib.Omega.{arith}
-use native.Mathlib.Decide.{ℕ-discrete}
+use native.Mathlib.Decide.{ℕ-discrete, decLt}
 use lib.ListN.{length, getD, length-append}
 use Rattle.desk.specs.Lists.{from, upto, keep, tally, total}
 use Rattle.desk.proofs.Upto.{length-from, getD-upto, length-upto}
@@ -126,6 +126,14 @@ module _ (g : ℕ → ℕ → Bool) where
   pub length-later : (n i : ℕ) → length (later n g i) ≤ n - suc i
   unfolding later
   length-later n i = length-keep (λ k. joined g i i k) (suc i) (n - suc i)
+
+  -- the first of them is below n
+  pub first-below : (n i x : ℕ) (xs : List ℕ) → i < n → later n g i ≡ x ∷ xs → x < n
+  unfolding later
+  first-below n i x xs h e = elim (decLt x n) [
+    | yes l ↦ l
+    | no ge ↦ absurd (omega (arith, ap (tally x) e, tally-here x xs, tally-past-end (λ k. joined g i i k) (suc i) (n - suc i) x (omega arith)))
+  ]
 
   -- the least of them, where there is one
   pub least-later : (n i k : ℕ) → i < k → k < n → joined g i i k ≡ true → Least (λ k. joined g i i k) (suc i) k (leastOr none (later n g i))
