@@ -5,7 +5,7 @@ use mathlib.Core.Bool.{Bool, true, false, cond}
 use mathlib.Core.Logic.{_⊎_, inl, inr, ⊎-elim}
 use mathlib.Core.List.{List, [], _∷_, _++_}
 use native.Mathlib.Omega.{arith}
-use native.Mathlib.Decide.{ℕ-discrete}
+use native.Mathlib.Decide.{ℕ-discrete, decLt}
 use native.Mathlib.Numerals.{add-one}
 use borrow.Author.Tests.{eq-eqb, ne-eqb}
 use lib.Dec.{eqb}
@@ -25,12 +25,11 @@ room-set n old new i v r h = record {
   past = drop-set-lt n new i v h ∙ r .past;
 }
 
-tables-set : (s : Setting) (upTo upTo′ : ℕ → ℕ) (w l e : List ℕ) (i x a b : ℕ) → Tables s upTo w l e → i < s .n → upTo′ i ≤ s .n →
+tables-set : (s : Setting) (upTo upTo′ : ℕ → ℕ) (w l e : List ℕ) (i x a b : ℕ) → Tables s upTo w l e → i < s .n →
     ((v : ℕ) → (v ≡ i → ⊥) → upTo′ v ≡ upTo v) → a ≡ length (later (upTo′ i) (s .g) i) → b ≡ leastOr none (later (upTo′ i) (s .g) i) →
     Tables s upTo′ (set w i x) (set l i a) (set e i b)
-tables-set s upTo upTo′ w l e i x a b t h fit same qa qb = record {
+tables-set s upTo upTo′ w l e i x a b t h same qa qb = record {
   small = t .small;
-  within = λ v q. elim (ℕ-discrete v i) [ yes r ↦ rw r fit | no ne ↦ rw (same v ne) (t .within v q) ];
   roomWork = room-set _ _ w i x (t .roomWork) h;
   roomCounts = room-set _ _ l i a (t .roomCounts) h;
   roomParents = room-set _ _ e i b (t .roomParents) h;
@@ -123,7 +122,6 @@ module _ (s : Setting) (j i : ℕ) (w l e : List ℕ) (c : Climbing s j i w l e)
     visit-more =
         let inside = visitable .roomWork in
         let t = tables-set s (given w j) (given (set w i j) j) w l e i j (getD l i 0 + 1) r (c .tables) in-n
-        (rw (given-marked (set w i j) j i (marks w j i inside)) (c .below))
         (given-other w j i inside)
         (rw (given-marked (set w i j) j i (marks w j i inside)) count-more)
         (rw (given-marked (set w i j) j i (marks w j i inside)) parent-is) in
@@ -146,3 +144,165 @@ module _ (s : Setting) (j i : ℕ) (w l e : List ℕ) (c : Climbing s j i w l e)
             | no ne ↦ c .fresh u m h k b (sym (getD-set-other w i u j 0 ne) ∙ q)
           ];
         })
+
+-- ---- a way up
+
+-- the way up from start stands at `at`
+pub record Way (s : Setting) (start j at : ℕ) (work₀ work lnz etree : List ℕ) : Type 0 where
+  pub row : Climbing s j at work lnz etree
+  pub on : On (s .g) j at
+  pub still : (i : ℕ) → getD work₀ i 0 ≡ j → getD work i 0 ≡ j
+  pub reached : (at ≡ start) ⊎ (getD work start 0 ≡ j)
+
+-- where j is marked, the way may stand anywhere
+elsewhere : (s : Setting) (j at : ℕ) (w l e : List ℕ) → Climbing s j j w l e → Climbing s j at w l e
+elsewhere s j at w l e c = record {
+  below = c .below;
+  tables = c .tables;
+  here = c .here;
+  row = c .row;
+  closed = λ i h q. ⊎-elim (λ m. inl m) (λ a. inl (rw a (c .here))) (c .closed i h q);
+  fresh = c .fresh;
+}
+
+pub way-none : (s : Setting) (start j : ℕ) (w l e : List ℕ) → Start s start j w l e → Way s start j start w w l e
+way-none s start j w l e b = record { row = elsewhere s j start w l e (b .row); on = b .on; still = λ i h. h; reached = inl refl }
+
+module _ (s : Setting) (start j i : ℕ) (w₀ w l e : List ℕ) (y : Way s start j i w₀ w l e) where
+  pub way-inside : i < length w
+  way-inside = ⊎-elim (λ q. omega (arith, y .row .below, y .row .tables .roomWork .enough)) (λ (b, _). omega (arith, y .row .below, y .row .tables .roomWork .enough)) (y .on)
+
+  -- at a marked unknown the way is done
+  pub way-done : getD w i 0 ≡ j → Climbed s start j w₀ w l e
+  way-done m = record {
+    row = record {
+      below = y .row .below;
+      tables = y .row .tables;
+      here = y .row .here;
+      row = y .row .row;
+      closed = λ v h q. inl (⊎-elim (λ k. k) (λ a. rw a m) (y .row .closed v h q));
+      fresh = y .row .fresh;
+    };
+    reached = ⊎-elim (λ q. rw (← q) m) (λ q. q) (y .reached);
+    still = y .still;
+  }
+
+  module _ (un : getD w i 0 ≡ j → ⊥) where
+    -- an unmarked one is no j
+    way-listed : (i < j) × (joined (s .g) i i j ≡ true)
+    way-listed = ⊎-elim (λ q. absurd (un (rw q (y .row .here)))) (λ h. h) (y .on)
+
+    pub way-visitable : Visitable i w l e
+    way-visitable = visitable s j i w l e (y .row) (way-listed .0) (way-listed .1) un
+
+    module _ (w′ l′ e′ : List ℕ) (r : ℕ) (v : Visited i j w w′ l l′ e e′ r) where
+      pub way-more : Way s start j r w₀ w′ l′ e′
+      way-more =
+          let inside = way-visitable .roomWork in
+          record {
+            row = visit-more s j i w l e (y .row) (way-listed .0) (way-listed .1) un w′ l′ e′ r v;
+            on = visit-on s j i w l e (y .row) (way-listed .0) (way-listed .1) un w′ l′ e′ r v;
+            still = λ u h. rw (v .marked) (still-marked w j i inside u (y .still u h));
+            reached = inr (rw (v .marked) (⊎-elim (λ q. rw (← q) (marks w j i inside)) (λ q. still-marked w j i inside start q) (y .reached)));
+          }
+
+      -- each step goes up, and not past j
+      pub way-nearer : j - r < j - i
+      way-nearer = omega (arith, way-listed .0, rises s j i w l e (y .row) (way-listed .0) (way-listed .1) un w′ l′ e′ r v)
+
+-- ---- a row
+
+is-false : (b : Bool) → (b ≡ true → ⊥) → b ≡ false
+is-false true n = absurd (n refl)
+is-false false n = refl
+
+-- each of the first k entries of j's column is marked
+pub record Entering (s : Setting) (j : ℕ) (rows : List ℕ) (k : ℕ) (work lnz etree : List ℕ) : Type 0 where
+  pub row : Climbing s j j work lnz etree
+  pub met : (q : ℕ) → q < k → getD work (getD rows q 0) 0 ≡ j
+
+module _ (s : Setting) (j : ℕ) (rows w l e : List ℕ) (x : Next s j rows w l e) where
+  inside-work : j < length w
+  inside-work = omega (arith, x .below, x .struck .tables .roomWork .enough)
+
+  unmarked-yet : (i : ℕ) → i < s .n → getD w i 0 ≡ j → ⊥
+  unmarked-yet i h q = x .struck .fresh i j h (omega arith) (x .below) q
+
+  -- with row j no column of j or a later unknown has a row more
+  given-yet : (A : Type 0) (f : List ℕ → A) (i : ℕ) → i < s .n → f (later j (s .g) i) ≡ f (later (given (set w j j) j i) (s .g) i)
+  given-yet A f i h = elim (ℕ-discrete i j) [
+    | yes q ↦ rw (q, given-marked (set w j j) j j (marks w j j inside-work), later-none (s .g) j j (omega arith), later-none (s .g) (suc j) j (omega arith))
+    | no ne ↦ rw (given-other w j j inside-work i ne, given-unmarked w j i (unmarked-yet i h))
+  ]
+
+  pub entering-none : Entering s j rows 0 (set w j j) l e
+  entering-none = record {
+    row = record {
+      below = x .below;
+      tables = record {
+        small = x .struck .tables .small;
+        roomWork = room-set _ _ w j j (x .struck .tables .roomWork) (x .below);
+        roomCounts = x .struck .tables .roomCounts;
+        roomParents = x .struck .tables .roomParents;
+        counted = λ i h. x .struck .tables .counted i h ∙ given-yet ℕ length i h;
+        parented = λ i h. x .struck .tables .parented i h ∙ given-yet ℕ (leastOr none) i h;
+      };
+      here = marks w j j inside-work;
+      row = λ i h q. absurd (unmarked-yet i (omega (arith, x .below)) (was-marked w j j inside-work i (λ b. omega arith) q));
+      closed = λ i h q. absurd (unmarked-yet i (omega (arith, x .below)) (was-marked w j j inside-work i (λ b. omega arith) q));
+      fresh = λ i m h k b q. elim (ℕ-discrete i j) [
+        | yes a ↦ omega (arith, rw (a, marks w j j inside-work) at q)
+        | no ne ↦ x .struck .fresh i m h (omega arith) b (sym (getD-set-other w j i j 0 ne) ∙ q)
+      ];
+    };
+    met = λ q h. absurd (omega arith);
+  }
+
+module _ (s : Setting) (j : ℕ) (rows : List ℕ) (k : ℕ) (w l e : List ℕ) (a : Entering s j rows k w l e) (col : Column (s .g) j rows) where
+  pub entering-start : k < length rows → {i : ℕ} → i ≡ getD rows k 0 → Start s i j w l e
+  entering-start h {i} q = record {
+    row = a .row;
+    on = rw q (⊎-elim (λ b. inl b) (λ (b, m). inr (b, entry-joined (s .g) (getD rows k 0) j m)) (col .on k h));
+  }
+
+  pub entering-more : {i : ℕ} → i ≡ getD rows k 0 → (w′ l′ e′ : List ℕ) → Climbed s i j w w′ l′ e′ → Entering s j rows (k + 1) w′ l′ e′
+  entering-more {i} q w′ l′ e′ c = record {
+    row = c .row;
+    met = λ m h. elim (ℕ-discrete m k) [ yes b ↦ rw (b, ← q) (c .reached) | no ne ↦ c .still (getD rows m 0) (a .met m (omega arith)) ];
+  }
+
+  -- with all entries the marked are row j
+  marked-all : length rows ≤ k → (i : ℕ) → i < j → joined (s .g) i i j ≡ true → getD w i 0 ≡ j
+  marked-all done =
+      row-all (s .g) (suc j) (λ i. leastOr none (later (suc j) (s .g) i)) (are-parents (s .g) (suc j)) j (omega arith)
+      (λ i. getD w i 0 ≡ j)
+      (λ i h m. let (q, b, r) = col .all i h m in rw (← r) (a .met q (omega arith)))
+      (λ i h m b.
+      let q = a .row .tables .parented i (omega (arith, a .row .below)) ∙ ap (λ (v : ℕ). leastOr none (later v (s .g) i)) (given-marked w j i m) in
+      rw (← q) (⊎-elim (λ k. k) (λ r. absurd (omega (arith, q, r))) (a .row .closed i h m)))
+
+  -- so each column has its rows below j + 1
+  given-all : length rows ≤ k → (A : Type 0) (f : List ℕ → A) (i : ℕ) → f (later (given w j i) (s .g) i) ≡ f (later (suc j) (s .g) i)
+  given-all done A f i = elim (ℕ-discrete (getD w i 0) j) [
+    | yes m ↦ rw (given-marked w j i m)
+    | no un ↦
+        rw (given-unmarked w j i un)
+        (elim (decLt i j) [
+          | yes h ↦ rw (later-apart (s .g) i j h (is-false (joined (s .g) i i j) (λ o. un (marked-all done i h o))))
+          | no ge ↦ rw (later-none (s .g) j i (omega arith), later-none (s .g) (suc j) i (omega arith))
+        ])
+  ]
+
+  pub entering-done : length rows ≤ k → Struck s (j + 1) w l e
+  entering-done done =
+      rw add-one (record {
+        tables = record {
+          small = a .row .tables .small;
+          roomWork = a .row .tables .roomWork;
+          roomCounts = a .row .tables .roomCounts;
+          roomParents = a .row .tables .roomParents;
+          counted = λ i h. a .row .tables .counted i h ∙ given-all done ℕ length i;
+          parented = λ i h. a .row .tables .parented i h ∙ given-all done ℕ (leastOr none) i;
+        };
+        fresh = a .row .fresh;
+      })

@@ -25,7 +25,6 @@ pub record Room (n : ℕ) (old new : List ℕ) : Type 0 where
 -- column i has been given its rows below upTo i: their number, and the least of them
 pub record Tables (s : Setting) (upTo : ℕ → ℕ) (work lnz etree : List ℕ) : Type 0 where
   pub small : s .n < 2 ^ 32
-  pub within : (i : ℕ) → i < s .n → upTo i ≤ s .n
   pub roomWork : Room (s .n) (s .work) work
   pub roomCounts : Room (s .n) (s .lnz) lnz
   pub roomParents : Room (s .n) (s .etree) etree
