@@ -1,5 +1,5 @@
 -- Laws of the marks: a visit, a way up and a column keep what the tables say, whatever the graph. Assumes nothing.
-use Prim.Native.Nat.{ℕ, zero, suc, _+_, _-_, _<_, _≤_}
+use Prim.Native.Nat.{ℕ, suc, _+_, _-_, _^_, _<_, _≤_}
 use mathlib.Core.Path.{_≡_, refl, sym, ap, _∙_, subst}
 use mathlib.Core.Bool.{Bool, true, false, cond}
 use mathlib.Core.Logic.{_⊎_, inl, inr, ⊎-elim}
@@ -9,9 +9,12 @@ use native.Mathlib.Decide.{ℕ-discrete, decLt}
 use native.Mathlib.Numerals.{add-one}
 use borrow.Author.Tests.{eq-eqb, ne-eqb}
 use lib.Dec.{eqb}
-use lib.ListN.{length, getD, set, drop, length-set, length-append}
-use lib.Seq.{getD-set-same, getD-set-other, drop-set-lt}
-use Rattle.tree.specs.Strike.{joined, later, none, leastOr}
+use lib.ListN.{length, getD, set, take, drop, replicate, length-set, length-append, length-replicate, getD-replicate, take-append-drop}
+use lib.Seq.{getD-set-same, getD-set-other, drop-set-lt, length-take-le, getD-take, ext-getD}
+use Rattle.desk.specs.Lists.{over}
+use Rattle.desk.proofs.Over.{getD-over, length-filled}
+use Rattle.desk.proofs.Upto.{getD-upto, length-upto}
+use Rattle.tree.specs.Strike.{joined, later, none, leastOr, parents, counts}
 use Rattle.tree.specs.Marks.{Setting, Room, Tables, Struck, given, On, Climbing, Visitable, orElse, Visited, Start, Climbed, Column, Next}
 use Rattle.tree.proofs.Liu.{Parents, filled, entry-joined, row-all}
 use Rattle.tree.proofs.Later.{Least, later-none, later-joined, later-apart, length-later, first-below, least-later, are-parents}
@@ -306,3 +309,52 @@ module _ (s : Setting) (j : ℕ) (rows : List ℕ) (k : ℕ) (w l e : List ℕ) 
         };
         fresh = a .row .fresh;
       })
+
+-- ---- before the first row, and after the last
+
+module _ (n v : ℕ) (old new : List ℕ) (e : new ≡ over (replicate n v) old) where
+  filled-at : (i : ℕ) → i < n → getD new i 0 ≡ v
+  filled-at i h = rw e (getD-over (replicate n v) old i 0 (omega (arith, length-replicate n v)) ∙ getD-replicate n i v 0 h)
+
+  filled-room : n ≤ length old → Room n new new
+  filled-room h = record { enough = omega (arith, ap length e ∙ length-filled n v old h); size = refl; past = refl }
+
+pub struck-none : (n : ℕ) (g : ℕ → ℕ → Bool) (w₀ w l₀ l e₀ e : List ℕ) → n < 2 ^ 32 → n ≤ length w₀ → n ≤ length l₀ → n ≤ length e₀ →
+    w ≡ over (replicate n none) w₀ → l ≡ over (replicate n 0) l₀ → e ≡ over (replicate n none) e₀ →
+    Struck (record { n = n; g = g; work = w; lnz = l; etree = e }) 0 w l e
+struck-none n g w₀ w l₀ l e₀ e small rw₀ rl₀ re₀ qw ql qe = record {
+  tables = record {
+    small = small;
+    roomWork = filled-room n none w₀ w qw rw₀;
+    roomCounts = filled-room n 0 l₀ l ql rl₀;
+    roomParents = filled-room n none e₀ e qe re₀;
+    counted = λ i h. filled-at n 0 l₀ l ql i h ∙ sym (ap length (later-none g 0 i (omega arith)));
+    parented = λ i h. filled-at n none e₀ e qe i h ∙ sym (ap (leastOr none) (later-none g 0 i (omega arith)));
+  };
+  fresh = λ i m h k b q. omega (arith, filled-at n none w₀ w qw i h);
+}
+
+-- a table that has y's numbers at its front is y over what it was
+pub front-is : (n : ℕ) (y old new : List ℕ) → Room n old new → length y ≡ n → ((i : ℕ) → i < n → getD new i 0 ≡ getD y i 0) → new ≡ over y old
+unfolding over
+front-is n y old new r size same =
+    let l : length (take n new) ≡ n = length-take-le n new (r .enough) in
+    let front : take n new ≡ y = ext-getD 0 (take n new) y (l ∙ sym size) (λ i h. getD-take n new i 0 (omega arith) ∙ same i (omega arith)) in
+    sym (take-append-drop n new) ∙ rw (front, r .past, size)
+
+module _ (s : Setting) (j : ℕ) (w l e : List ℕ) (x : Struck s j w l e) (done : j ≡ s .n) where
+  pub struck-counts : l ≡ over (counts (s .n) (s .g)) (s .lnz)
+  unfolding counts
+  struck-counts =
+      front-is (s .n) (counts (s .n) (s .g)) (s .lnz) l (x .tables .roomCounts)
+      (length-upto (λ i. length (later (s .n) (s .g) i)) (s .n))
+      (λ i h.
+      x .tables .counted i h ∙ rw done (sym (getD-upto (λ i. length (later (s .n) (s .g) i)) 0 (s .n) i h)))
+
+  pub struck-parents : e ≡ over (parents (s .n) (s .g)) (s .etree)
+  unfolding parents
+  struck-parents =
+      front-is (s .n) (parents (s .n) (s .g)) (s .etree) e (x .tables .roomParents)
+      (length-upto (λ i. leastOr none (later (s .n) (s .g) i)) (s .n))
+      (λ i h.
+      x .tables .parented i h ∙ rw done (sym (getD-upto (λ i. leastOr none (later (s .n) (s .g) i)) 0 (s .n) i h)))
