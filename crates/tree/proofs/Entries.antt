@@ -66,8 +66,8 @@ module _ (n : ℕ) (ptr rows : List ℕ) (upper : notUpper n ptr rows ≡ false)
   unfolding entry
   entry-above i l = let le : i ≤ j = omega arith in rw (ne-eqb i j (λ e. omega arith), min-eq-left le, max-eq-right le)
 
-  pub column-entries : Column (entry ptr rows) j (column ptr rows j)
-  column-entries =
+  entries : Column (entry ptr rows) j (column ptr rows j)
+  entries =
       let col = column ptr rows j in
       record {
         on = λ q l.
@@ -80,3 +80,6 @@ module _ (n : ℕ) (ptr rows : List ℕ) (upper : notUpper n ptr rows ≡ false)
             let (q, b, t) = any-where (eqb i) col (sym (entry-above i l) ∙ e) in
             (q, b, sym (eqb-true i (getD col q 0) t));
       }
+
+  pub column-entries : {part : List ℕ} → part ≡ column ptr rows j → Column (entry ptr rows) j part
+  column-entries q = rw q entries

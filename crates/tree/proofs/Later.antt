@@ -146,3 +146,21 @@ module _ (g : ℕ → ℕ → Bool) where
     least = λ i k l u h. least-later n i k l u h .least;
     touched = λ i k l u h. least-later n i k l u h .passes;
   }
+
+  -- ---- the tables
+
+  pub length-counts : (n : ℕ) → length (counts n g) ≡ n
+  unfolding counts
+  length-counts n = length-upto (λ i. length (later n g i)) n
+
+  pub getD-counts : (n i : ℕ) → i < n → getD (counts n g) i 0 ≡ length (later n g i)
+  unfolding counts
+  getD-counts n i h = getD-upto (λ i. length (later n g i)) 0 n i h
+
+  pub length-parents : (n : ℕ) → length (parents n g) ≡ n
+  unfolding parents
+  length-parents n = length-upto (λ i. leastOr none (later n g i)) n
+
+  pub getD-parents : (n i : ℕ) → i < n → getD (parents n g) i 0 ≡ leastOr none (later n g i)
+  unfolding parents
+  getD-parents n i h = getD-upto (λ i. leastOr none (later n g i)) 0 n i h

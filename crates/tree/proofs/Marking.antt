@@ -13,11 +13,10 @@ use lib.ListN.{length, getD, set, take, drop, replicate, length-set, length-appe
 use lib.Seq.{getD-set-same, getD-set-other, drop-set-lt, length-take-le, getD-take, ext-getD}
 use Rattle.desk.specs.Lists.{over}
 use Rattle.desk.proofs.Over.{getD-over, length-filled}
-use Rattle.desk.proofs.Upto.{getD-upto, length-upto}
 use Rattle.tree.specs.Strike.{joined, later, none, leastOr, parents, counts}
 use Rattle.tree.specs.Marks.{Setting, Room, Tables, Struck, given, On, Climbing, Visitable, orElse, Visited, Start, Climbed, Column, Next}
 use Rattle.tree.proofs.Liu.{Parents, filled, entry-joined, row-all}
-use Rattle.tree.proofs.Later.{Least, later-none, later-joined, later-apart, length-later, first-below, least-later, are-parents}
+use Rattle.tree.proofs.Later.{Least, later-none, later-joined, later-apart, length-later, first-below, least-later, are-parents, length-counts, getD-counts, length-parents, getD-parents}
 
 -- ---- a table after a store
 
@@ -344,17 +343,11 @@ front-is n y old new r size same =
 
 module _ (s : Setting) (j : ℕ) (w l e : List ℕ) (x : Struck s j w l e) (done : j ≡ s .n) where
   pub struck-counts : l ≡ over (counts (s .n) (s .g)) (s .lnz)
-  unfolding counts
   struck-counts =
-      front-is (s .n) (counts (s .n) (s .g)) (s .lnz) l (x .tables .roomCounts)
-      (length-upto (λ i. length (later (s .n) (s .g) i)) (s .n))
-      (λ i h.
-      x .tables .counted i h ∙ rw done (sym (getD-upto (λ i. length (later (s .n) (s .g) i)) 0 (s .n) i h)))
+      front-is (s .n) (counts (s .n) (s .g)) (s .lnz) l (x .tables .roomCounts) (length-counts (s .g) (s .n)) (λ i h.
+      x .tables .counted i h ∙ rw done (sym (getD-counts (s .g) (s .n) i h)))
 
   pub struck-parents : e ≡ over (parents (s .n) (s .g)) (s .etree)
-  unfolding parents
   struck-parents =
-      front-is (s .n) (parents (s .n) (s .g)) (s .etree) e (x .tables .roomParents)
-      (length-upto (λ i. leastOr none (later (s .n) (s .g) i)) (s .n))
-      (λ i h.
-      x .tables .parented i h ∙ rw done (sym (getD-upto (λ i. leastOr none (later (s .n) (s .g) i)) 0 (s .n) i h)))
+      front-is (s .n) (parents (s .n) (s .g)) (s .etree) e (x .tables .roomParents) (length-parents (s .g) (s .n)) (λ i h.
+      x .tables .parented i h ∙ rw done (sym (getD-parents (s .g) (s .n) i h)))
