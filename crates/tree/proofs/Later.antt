@@ -5,12 +5,18 @@ use mathlib.Core.Bool.{Bool, true, false, cond, true≢false}
 use mathlib.Core.List.{List, [], _∷_, _++_, map, append-nil}
 use native.Mathlib.Omega.{arith}
 use native.Mathlib.Decide.{ℕ-discrete, decLt}
+use borrow.Author.Tests.{lt-ltb}
 use lib.ListN.{length, getD, length-append}
 use Rattle.desk.specs.Lists.{from, upto, keep, tally, total}
 use Rattle.desk.proofs.Upto.{length-from, getD-upto, length-upto}
 use Rattle.desk.proofs.Tally.{tally-none, tally-here, tally-past}
+use Rattle.csc.specs.Csc.{rises}
 use Rattle.tree.specs.Strike.{joined, later, none, leastOr, parents, counts}
 use Rattle.tree.proofs.Liu.{Parents}
+
+is-true : (b : Bool) → (b ≡ false → ⊥) → b ≡ true
+is-true true n = refl
+is-true false n = absurd (n refl)
 
 -- ---- the numbers in a row that pass a test
 
@@ -98,6 +104,24 @@ module _ (p : ℕ → Bool) where
   tally-past-end i zero v u = tally-none v
   tally-past-end i (suc k) v u = tally-step v i (p i) (keep p (from (suc i) k)) (λ e. omega arith) ∙ tally-past-end (suc i) k v (omega arith)
 
+  -- and rising
+  first-from : (i k y : ℕ) (ys : List ℕ) → keep p (from i k) ≡ y ∷ ys → i ≤ y
+  first-from i k y ys e = elim (decLt y i) [
+    | yes l ↦ absurd (omega (arith, ap (tally y) e, tally-here y ys, tally-early i k y l))
+    | no ge ↦ omega arith
+  ]
+
+  rises-step : (i : ℕ) (b : Bool) (xs : List ℕ) → ((y : ℕ) (ys : List ℕ) → xs ≡ y ∷ ys → i < y) → rises xs ≡ true → rises (cond b (i ∷ xs) xs) ≡ true
+  unfolding rises
+  rises-step i false xs h r = r
+  rises-step i true [] h r = refl
+  rises-step i true (y ∷ ys) h r = rw (lt-ltb i y (h y ys refl)) r
+
+  pub keep-rises : (i k : ℕ) → rises (keep p (from i k)) ≡ true
+  unfolding keep from rises
+  keep-rises i zero = refl
+  keep-rises i (suc k) = rises-step i (p i) (keep p (from (suc i) k)) (first-from (suc i) k) (keep-rises (suc i) k)
+
 -- ---- the later unknowns
 
 module _ (g : ℕ → ℕ → Bool) where
@@ -127,13 +151,36 @@ module _ (g : ℕ → ℕ → Bool) where
   unfolding later
   length-later n i = length-keep (λ k. joined g i i k) (suc i) (n - suc i)
 
+  -- each of them is listed once, nothing else is, and they rise
+  pub listed-once : (n i k : ℕ) → i < k → k < n → joined g i i k ≡ true → tally k (later n g i) ≡ 1
+  unfolding later
+  listed-once n i k l u h = tally-kept (λ k. joined g i i k) (suc i) (n - suc i) k l (omega arith) h
+
+  pub listed-later : (n i k : ℕ) → 0 < tally k (later n g i) → i < k
+  unfolding later
+  listed-later n i k t = elim (decLt i k) [
+    | yes l ↦ l
+    | no ge ↦ absurd (omega (arith, tally-early (λ k. joined g i i k) (suc i) (n - suc i) k (omega arith)))
+  ]
+
+  pub listed-below : (n i k : ℕ) → i < n → 0 < tally k (later n g i) → k < n
+  unfolding later
+  listed-below n i k h t = elim (decLt k n) [
+    | yes l ↦ l
+    | no ge ↦ absurd (omega (arith, tally-past-end (λ k. joined g i i k) (suc i) (n - suc i) k (omega arith)))
+  ]
+
+  pub listed-joined : (n i k : ℕ) → 0 < tally k (later n g i) → joined g i i k ≡ true
+  unfolding later
+  listed-joined n i k t = is-true (joined g i i k) (λ e. omega (arith, tally-else (λ k. joined g i i k) (suc i) (n - suc i) k e))
+
+  pub later-rises : (n i : ℕ) → rises (later n g i) ≡ true
+  unfolding later
+  later-rises n i = keep-rises (λ k. joined g i i k) (suc i) (n - suc i)
+
   -- the first of them is below n
   pub first-below : (n i x : ℕ) (xs : List ℕ) → i < n → later n g i ≡ x ∷ xs → x < n
-  unfolding later
-  first-below n i x xs h e = elim (decLt x n) [
-    | yes l ↦ l
-    | no ge ↦ absurd (omega (arith, ap (tally x) e, tally-here x xs, tally-past-end (λ k. joined g i i k) (suc i) (n - suc i) x (omega arith)))
-  ]
+  first-below n i x xs h e = listed-below n i x h (omega (arith, ap (tally x) e, tally-here x xs))
 
   -- the least of them, where there is one
   pub least-later : (n i k : ℕ) → i < k → k < n → joined g i i k ≡ true → Least (λ k. joined g i i k) (suc i) k (leastOr none (later n g i))
