@@ -2,8 +2,8 @@
 -- Assumes nothing.
 use Prim.Native.Nat.{ℕ, zero, suc, _+_, _<_, _≤_}
 use mathlib.Core.Path.{_≡_, refl, sym, _∙_}
-use mathlib.Core.Bool.{Bool, true, false, _||_, or-true, true≢false, false≢true}
-use mathlib.Core.Logic.{_⊎_, inl, inr}
+use mathlib.Core.Bool.{Bool, true, false, _||_, false≢true}
+use mathlib.Core.Logic.{inl, inr}
 use mathlib.Core.List.{List, [], _∷_}
 use native.Mathlib.Omega.{arith}
 use native.Mathlib.Nat.{min-eq-left, max-eq-right}
@@ -11,23 +11,20 @@ use native.Mathlib.Decide.{ℕ-discrete}
 use borrow.Author.Tests.{ltb-false, eqb-true, eq-eqb, ne-eqb}
 use lib.Dec.{ltb, eqb}
 use lib.ListN.{length, getD}
-use Rattle.desk.specs.Lists.{any, from, upto}
+use Rattle.desk.specs.Lists.{any, from}
 use Rattle.csc.specs.Csc.{column, notUpper}
 use Rattle.tree.specs.Strike.{entry}
 use Rattle.tree.specs.Marks.{Column}
+use Rattle.tree.proofs.Tests.{either, neither}
 
 -- ---- a test that one of a list passes, and that none does
-
-neither : (x y : Bool) → (x || y) ≡ false → (x ≡ false) × (y ≡ false)
-neither true y h = absurd (true≢false h)
-neither false y h = (refl, h)
 
 module _ (p : ℕ → Bool) where
   pub any-at : (xs : List ℕ) (q : ℕ) → q < length xs → p (getD xs q 0) ≡ true → any p xs ≡ true
   unfolding any
   any-at [] q h e = absurd (omega arith)
   any-at (x ∷ xs) zero h e = rw e
-  any-at (x ∷ xs) (suc q) h e = rw (any-at xs q (omega arith) e) (or-true (p x))
+  any-at (x ∷ xs) (suc q) h e = either (p x) (any-at xs q (omega arith) e)
 
   pub any-where : (xs : List ℕ) → any p xs ≡ true → (q : ℕ) × (q < length xs) × (p (getD xs q 0) ≡ true)
   unfolding any

@@ -1,22 +1,19 @@
 -- Laws of the list of the later unknowns that one touches: what it holds, how it grows with each row, and its least. Assumes nothing.
-use Prim.Native.Nat.{ℕ, zero, suc, _+_, _*_, _^_, _-_, _<_, _≤_}
+use Prim.Native.Nat.{ℕ, zero, suc, _+_, _-_, _<_, _≤_}
 use mathlib.Core.Path.{_≡_, refl, sym, ap, _∙_}
 use mathlib.Core.Bool.{Bool, true, false, cond, true≢false}
-use mathlib.Core.List.{List, [], _∷_, _++_, map, append-nil}
+use mathlib.Core.List.{List, [], _∷_, _++_, append-nil}
 use native.Mathlib.Omega.{arith}
 use native.Mathlib.Decide.{ℕ-discrete, decLt}
 use borrow.Author.Tests.{lt-ltb}
-use lib.ListN.{length, getD, length-append}
-use Rattle.desk.specs.Lists.{from, upto, keep, tally, total}
-use Rattle.desk.proofs.Upto.{length-from, getD-upto, length-upto}
+use lib.ListN.{length, getD}
+use Rattle.desk.specs.Lists.{from, keep, tally}
+use Rattle.desk.proofs.Upto.{getD-upto, length-upto}
 use Rattle.desk.proofs.Tally.{tally-none, tally-here, tally-past}
 use Rattle.csc.specs.Csc.{rises}
 use Rattle.tree.specs.Strike.{joined, later, none, leastOr, parents, counts}
+use Rattle.tree.proofs.Tests.{is-true}
 use Rattle.tree.proofs.Liu.{Parents}
-
-is-true : (b : Bool) → (b ≡ false → ⊥) → b ≡ true
-is-true true n = refl
-is-true false n = absurd (n refl)
 
 -- ---- the numbers in a row that pass a test
 

@@ -1,16 +1,14 @@
 -- Demand 3 on parents and counts: at each unknown i the count is how many later unknowns are joined to i as i goes, and the parent is
 -- the least of them, or none. The counts of an order that the desk takes fit a table's width. Assumes nothing.
-use Prim.Native.Nat.{ℕ, suc, _+_, _*_, _^_, _-_, _<_, _≤_}
-use mathlib.Core.Path.{_≡_, refl, sym, ap, _∙_}
-use mathlib.Core.Bool.{Bool, true, false, true≢false}
+use Prim.Native.Nat.{ℕ, _*_, _^_, _<_, _≤_}
+use mathlib.Core.Path.{_≡_, refl, ap}
+use mathlib.Core.Bool.{Bool, true}
 use mathlib.Core.List.{List, [], _∷_, map}
-use native.Mathlib.Nat.{le-trans, mul-le-mul, suc-mul}
+use native.Mathlib.Nat.{mul-le-mul, suc-mul}
 use native.Mathlib.Omega.{arith}
-use native.Mathlib.Decide.{decLt}
-use borrow.Author.Tests.{lt-ltb}
 use lib.ListN.{length, getD}
 use Rattle.desk.specs.Desk.{maxN}
-use Rattle.desk.specs.Lists.{from, upto, keep, tally, total}
+use Rattle.desk.specs.Lists.{upto, tally, total}
 use Rattle.desk.proofs.Tally.{tally-here}
 use Rattle.desk.proofs.Upto.{length-from}
 use Rattle.csc.specs.Csc.{rises}
@@ -51,7 +49,7 @@ module _ (n : ℕ) (g : ℕ → ℕ → Bool) where
         let l = least-later g n i k (j .after) (j .inside) (j .touches) in
         record { after = l .from-on; inside = omega (arith, l .least, j .inside); touches = l .passes };
     least = λ k j. least-later g n i k (j .after) (j .inside) (j .touches) .least;
-    alone = λ no. nothing (later n g i) (λ x xs e. no x (listed-joins i x h (omega (arith, ap (tally x) e, tally-here x xs))));
+    alone = λ a. nothing (later n g i) (λ x xs e. a x (listed-joins i x h (omega (arith, ap (tally x) e, tally-here x xs))));
   }
 
   pub strikes : (i : ℕ) → i < n → Strikes n g i (getD (counts n g) i 0) (getD (parents n g) i 0)

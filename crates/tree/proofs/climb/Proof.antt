@@ -5,7 +5,7 @@ use mathlib.Core.Path.{sym, _∙_}
 use native.Mathlib.Omega.{arith}
 use denote.Ref.{now}
 use Rattle.tree.specs.Marks.{Setting, Tables, given, Start}
-use Rattle.tree.proofs.Marking.{Way, way-none, way-inside, way-done, way-visitable, way-more, way-nearer}
+use Rattle.tree.proofs.Ways.{Way, way-none, way-inside, way-done, way-visitable, way-more, way-nearer}
 use Rattle.tree.proofs.climb.Statement.{statement}
 use Rattle.tree.proofs.climb.Tie as tie
 

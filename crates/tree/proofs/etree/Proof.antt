@@ -5,14 +5,14 @@ use mathlib.Core.Path.{_≡_, sym, ap, _∙_}
 use native.Mathlib.Omega.{arith}
 use borrow.Author.Needs.{needs}
 use denote.Ref.{now}
-use lib.ListN.{length, replicate, length-replicate}
+use lib.ListN.{replicate, length-replicate}
 use Rattle.desk.specs.Lists.{over}
-use Rattle.desk.proofs.Over.{over-over, length-filled}
+use Rattle.desk.proofs.Over.{over-over}
 use Rattle.tree.specs.Strike.{entry, none, parents, counts}
 use Rattle.tree.specs.Marks.{Setting, Struck, Next}
 use Rattle.tree.proofs.Entries.{column-entries}
 use Rattle.tree.proofs.Later.{length-counts, length-parents}
-use Rattle.tree.proofs.Marking.{struck-none, struck-counts, struck-parents}
+use Rattle.tree.proofs.Rows.{struck-none, struck-counts, struck-parents}
 use Rattle.tree.proofs.etree.Statement.{statement}
 use Rattle.tree.proofs.etree.Tie as tie
 

@@ -2,12 +2,11 @@
 -- The measure is how many entries are left. Assumes nothing.
 use Prim.Native.Nat.{_-_}
 use mathlib.Core.Path.{sym, _∙_}
-use native.Mathlib.Omega.{arith}
 use borrow.Author.Needs.{needs}
 use denote.Ref.{now}
 use lib.ListN.{length}
 use Rattle.tree.specs.Marks.{Setting, Start, Column}
-use Rattle.tree.proofs.Marking.{Entering, entering-none, entering-start, entering-more, entering-done}
+use Rattle.tree.proofs.Rows.{Entering, entering-none, entering-start, entering-more, entering-done}
 use Rattle.tree.proofs.strike_column.Statement.{statement}
 use Rattle.tree.proofs.strike_column.Tie as tie
 
