@@ -41,6 +41,18 @@ tables-set s upTo upTo′ w l e i x a b t h same qa qb = record {
   ];
 }
 
+-- where the columns' rows are the same, so are the tables
+pub tables-same : (s : Setting) (upTo upTo′ : ℕ → ℕ) (w w′ l e : List ℕ) → Tables s upTo w l e → Room (s .n) (s .work) w′ →
+    ((i : ℕ) → i < s .n → later (upTo i) (s .g) i ≡ later (upTo′ i) (s .g) i) → Tables s upTo′ w′ l e
+tables-same s upTo upTo′ w w′ l e t room same = record {
+  small = t .small;
+  roomWork = room;
+  roomCounts = t .roomCounts;
+  roomParents = t .roomParents;
+  counted = λ i h. t .counted i h ∙ ap length (same i h);
+  parented = λ i h. t .parented i h ∙ ap (leastOr none) (same i h);
+}
+
 -- ---- marks
 
 pub given-marked : (w : List ℕ) (j i : ℕ) → getD w i 0 ≡ j → given w j i ≡ suc j

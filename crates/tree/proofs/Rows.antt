@@ -16,7 +16,7 @@ use Rattle.tree.specs.Marks.{Setting, Room, Struck, given, Climbing, Sta
 use Rattle.tree.proofs.Liu.{entry-joined, row-all}
 use Rattle.tree.proofs.Later.{later-none, later-apart, are-parents, length-counts, getD-counts, length-parents, getD-parents}
 use Rattle.tree.proofs.Tests.{is-false}
-use Rattle.tree.proofs.Marking.{room-set, given-marked, given-unmarked, marks, was-marked, given-other}
+use Rattle.tree.proofs.Marking.{room-set, tables-same, given-marked, given-unmarked, marks, was-marked, given-other}
 
 -- ---- before the first row
 
@@ -56,9 +56,9 @@ module _ (s : Setting) (j : ℕ) (rows w l e : List ℕ) (x : Next s j rows w l 
   unmarked-yet : (i : ℕ) → i < s .n → getD w i 0 ≡ j → ⊥
   unmarked-yet i h q = x .struck .fresh i j h (omega arith) (x .below) q
 
-  -- with row j no column of j or a later unknown has a row more
-  given-yet : (A : Type 0) (f : List ℕ → A) (i : ℕ) → i < s .n → f (later j (s .g) i) ≡ f (later (given (set w j j) j i) (s .g) i)
-  given-yet A f i h = elim (ℕ-discrete i j) [
+  -- j's own mark gives no column a row
+  given-yet : (i : ℕ) → i < s .n → later j (s .g) i ≡ later (given (set w j j) j i) (s .g) i
+  given-yet i h = elim (ℕ-discrete i j) [
     | yes q ↦ rw (q, given-marked (set w j j) j j (marks w j j inside-work), later-none (s .g) j j (omega arith), later-none (s .g) (suc j) j (omega arith))
     | no ne ↦ rw (given-other w j j inside-work i ne, given-unmarked w j i (unmarked-yet i h))
   ]
@@ -67,14 +67,7 @@ module _ (s : Setting) (j : ℕ) (rows w l e : List ℕ) (x : Next s j rows w l 
   entering-none = record {
     row = record {
       below = x .below;
-      tables = record {
-        small = x .struck .tables .small;
-        roomWork = room-set _ _ w j j (x .struck .tables .roomWork) (x .below);
-        roomCounts = x .struck .tables .roomCounts;
-        roomParents = x .struck .tables .roomParents;
-        counted = λ i h. x .struck .tables .counted i h ∙ given-yet ℕ length i h;
-        parented = λ i h. x .struck .tables .parented i h ∙ given-yet ℕ (leastOr none) i h;
-      };
+      tables = tables-same s (λ i. j) (given (set w j j) j) w (set w j j) l e (x .struck .tables) (room-set _ _ w j j (x .struck .tables .roomWork) (x .below)) given-yet;
       here = marks w j j inside-work;
       row = λ i h q. absurd (unmarked-yet i (omega (arith, x .below)) (was-marked w j j inside-work i (λ b. omega arith) q));
       closed = λ i h q. absurd (unmarked-yet i (omega (arith, x .below)) (was-marked w j j inside-work i (λ b. omega arith) q));
@@ -110,8 +103,8 @@ module _ (s : Setting) (j : ℕ) (rows : List ℕ) (k : ℕ) (w l e : List ℕ) 
       rw (← q) (⊎-elim (λ k. k) (λ r. absurd (omega (arith, q, r))) (a .row .closed i h m)))
 
   -- so each column has its rows below j + 1
-  given-all : length rows ≤ k → (A : Type 0) (f : List ℕ → A) (i : ℕ) → f (later (given w j i) (s .g) i) ≡ f (later (suc j) (s .g) i)
-  given-all done A f i = elim (ℕ-discrete (getD w i 0) j) [
+  given-all : length rows ≤ k → (i : ℕ) → later (given w j i) (s .g) i ≡ later (suc j) (s .g) i
+  given-all done i = elim (ℕ-discrete (getD w i 0) j) [
     | yes m ↦ rw (given-marked w j i m)
     | no un ↦
         rw (given-unmarked w j i un)
@@ -124,14 +117,7 @@ module _ (s : Setting) (j : ℕ) (rows : List ℕ) (k : ℕ) (w l e : List ℕ) 
   pub entering-done : length rows ≤ k → Struck s (j + 1) w l e
   entering-done done =
       rw add-one (record {
-        tables = record {
-          small = a .row .tables .small;
-          roomWork = a .row .tables .roomWork;
-          roomCounts = a .row .tables .roomCounts;
-          roomParents = a .row .tables .roomParents;
-          counted = λ i h. a .row .tables .counted i h ∙ given-all done ℕ length i;
-          parented = λ i h. a .row .tables .parented i h ∙ given-all done ℕ (leastOr none) i;
-        };
+        tables = tables-same s (given w j) (λ i. suc j) w w l e (a .row .tables) (a .row .tables .roomWork) (λ i h. given-all done i);
         fresh = a .row .fresh;
       })
 

@@ -62,6 +62,6 @@ module _ (s : Setting) (start j i : ℕ) (w₀ w l e : List ℕ) (y : Way s star
             reached = inr (rw (v .marked) (⊎-elim (λ q. rw (← q) (marks w j i inside)) (λ q. still-marked w j i inside start q) (y .reached)));
           }
 
-      -- each step goes up, and not past j
+      -- a step up is a step nearer to j
       pub way-nearer : j - r < j - i
       way-nearer = omega (arith, way-listed .0, visit-rises s j i w l e (y .row) (way-listed .0) (way-listed .1) un w′ l′ e′ r v)
