@@ -208,3 +208,10 @@ module _ (g : ℕ → ℕ → Bool) where
   pub getD-parents : (n i : ℕ) → i < n → getD (parents n g) i 0 ≡ leastOr none (later n g i)
   unfolding parents
   getD-parents n i h = getD-upto (λ i. leastOr none (later n g i)) 0 n i h
+
+  pub table-parents : (n : ℕ) → Parents g n (λ i. getD (parents n g) i 0)
+  table-parents n = record {
+    later = λ i k l u h. rw (getD-parents n i (omega arith)) (are-parents n .later i k l u h);
+    least = λ i k l u h. rw (getD-parents n i (omega arith)) (are-parents n .least i k l u h);
+    touched = λ i k l u h. rw (getD-parents n i (omega arith)) (are-parents n .touched i k l u h);
+  }
