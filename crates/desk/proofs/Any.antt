@@ -1,7 +1,7 @@
 -- One turn of a search: the test at the place that the loop stands at decides, or what is left answers as before. In a list the place
 -- is an index j, and what is left `drop j l`; in the numbers below n it is c itself, and what is left `from c (n - c)`. Assumes nothing.
 use Prim.Native.Nat.{ℕ, zero, suc, _+_, _-_, _≤_, _<_}
-use mathlib.Core.Bool.{Bool, true, false}
+use mathlib.Core.Bool.{Bool, true, false, _||_, false≢true}
 use mathlib.Core.List.{List, [], _∷_}
 use mathlib.Core.Path.{_≡_, refl}
 use native.Mathlib.Decide.{ℕ-discrete}
@@ -10,7 +10,7 @@ use native.Mathlib.Omega.{arith}
 use lib.ListN.{length, getD, drop, drop-of-length-le}
 use lib.Seq.{drop-cons}
 use Rattle.desk.specs.Lists.{any, from}
-use Rattle.desk.proofs.Both.{neither}
+use Rattle.desk.proofs.Both.{either, neither}
 
 module _ {A : Type 0} (p : A → Bool) (l : List A) (j : ℕ) {r : Bool} (left : any p (drop j l) ≡ r) where
   module _ (d : A) (h : j < length l) where
@@ -42,6 +42,24 @@ module _ (p : ℕ → Bool) (c n : ℕ) {r : Bool} (left : any p (from c (n - c)
   pub below-done : n ≤ c → false ≡ r
   unfolding any from
   below-done h = let none : n - c ≡ 0 = omega arith in rw none at left
+
+-- where one passes, some place holds it; and the other way round
+module _ {A : Type 0} (p : A → Bool) (d : A) where
+  pub any-at : (xs : List A) (q : ℕ) → q < length xs → p (getD xs q d) ≡ true → any p xs ≡ true
+  unfolding any
+  any-at [] q h e = absurd (omega arith)
+  any-at (x ∷ xs) zero h e = rw e
+  any-at (x ∷ xs) (suc q) h e = either (p x) (any-at xs q (omega arith) e)
+
+  pub any-where : (xs : List A) → any p xs ≡ true → (q : ℕ) × (q < length xs) × (p (getD xs q d) ≡ true)
+  unfolding any
+  any-where [] h = absurd (false≢true h)
+  any-where (x ∷ xs) h = go (p x) refl h (any-where xs)
+    where
+      go : (b : Bool) → p x ≡ b → (b || any p xs) ≡ true → (any p xs ≡ true → (q : ℕ) × (q < length xs) × (p (getD xs q d) ≡ true)) →
+          (q : ℕ) × (q < suc (length xs)) × (p (getD (x ∷ xs) q d) ≡ true)
+      go true e r rest = (0, omega arith, e)
+      go false e r rest = let (q, l, t) = rest r in (suc q, omega arith, t)
 
 -- where none passes, each fails; and where each fails, none passes
 pub none-at : {A : Type 0} (p : A → Bool) (d : A) (l : List A) → any p l ≡ false → (j : ℕ) → j < length l → p (getD l j d) ≡ false

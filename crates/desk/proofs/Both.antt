@@ -1,4 +1,4 @@
--- What tests joined by `and` and `or` say of each, and what the tests of sizes and lengths say as numbers. Assumes nothing.
+-- Laws of tests: joined by `and` and `or`, and refuted; and what the tests of sizes and lengths say as numbers. Assumes nothing.
 use Prim.Native.Nat.{ℕ, _<_, _≤_}
 use mathlib.Core.Path.{_≡_, refl}
 use mathlib.Core.Bool.{Bool, true, false, not, _&&_, _||_, false≢true, true≢false}
@@ -18,6 +18,22 @@ both false y h = absurd (false≢true h)
 pub neither : (x y : Bool) → (x || y) ≡ false → (x ≡ false) × (y ≡ false)
 neither true y h = absurd (true≢false h)
 neither false y h = (refl, h)
+
+pub either : (x : Bool) {y : Bool} → y ≡ true → (x || y) ≡ true
+either true h = refl
+either false h = h
+
+pub cases : (x y : Bool) → (x || y) ≡ true → (x ≡ true) ⊎ (y ≡ true)
+cases true y h = inl refl
+cases false y h = inr h
+
+pub is-true : (b : Bool) → (b ≡ false → ⊥) → b ≡ true
+is-true true h = refl
+is-true false h = absurd (h refl)
+
+pub is-false : (b : Bool) → (b ≡ true → ⊥) → b ≡ false
+is-false true h = absurd (h refl)
+is-false false h = refl
 
 pub not-both : (x y : Bool) → (x && y) ≡ false → (x ≡ false) ⊎ (y ≡ false)
 not-both true y h = inr h

@@ -7,7 +7,6 @@ use Prim.Native.Nat.{ℕ}
 use native.Mathlib.Omega.{arith}
 use Rattle.desk.specs.Desk.{Line, _⇒_⨾_, first}
 use Rattle.desk.specs.declared.Refusal.{Refusal}
-use Rattle.desk.specs.declared.Verdict.{Verdict}
 use Rattle.desk.specs.declared.Verdict.the-variants.{Accepted, Refused}
 
 pub refused-not-accepted : (r : Refusal) → Refused r ≡ Accepted → ⊥

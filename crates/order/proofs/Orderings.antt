@@ -1,8 +1,8 @@
 -- Laws of orderings: what being one says of each number, where a number first stands, and lists sent through an ordering. Assumes nothing.
 use Prim.Native.Nat.{ℕ, zero, suc, _+_, _^_, _<_, _≤_}
 use mathlib.Core.Path.{_≡_, refl, sym, ap, subst, _∙_}
-use mathlib.Core.Bool.{Bool, true, false, not, true≢false}
-use mathlib.Core.List.{List, [], _∷_, _++_, map}
+use mathlib.Core.Bool.{true, false, not}
+use mathlib.Core.List.{List, [], _∷_, map}
 use native.Mathlib.Numerals.{add-one}
 use native.Mathlib.Omega.{arith}
 use native.Mathlib.Decide.{ℕ-discrete, decLt}
@@ -11,6 +11,7 @@ use lib.Dec.{eqb}
 use lib.ListN.{length, getD, take, drop, set, replicate, length-map, length-set, length-replicate, getD-replicate, take-append-drop}
 use lib.Seq.{take-length, length-take-le, getD-take, getD-set-same, getD-set-other, drop-set-lt, ext-getD}
 use Rattle.desk.specs.Lists.{upto, all, tally, over}
+use Rattle.desk.proofs.Both.{is-false}
 use Rattle.desk.proofs.Upto.{getD-upto, length-upto, all-upto, each-upto}
 use Rattle.desk.proofs.Tally.{tally-none, tally-here, tally-past, tally-split, tally-suc, below, below-all, below-missing, below-once, each-once}
 use Rattle.desk.proofs.Over.{front, front-more, front-length, front-all, getD-over}
@@ -39,10 +40,6 @@ pub stands-first : (p : List ℕ) → isOrdering p ≡ true → (i : ℕ) → i 
 stands-first p o i h =
     let v = getD p i 0 in
     omega (arith, stands-once p o v (stands-below p o i h), tally-split v (suc i) p, tally-suc v i p h, tally-here v [])
-
-is-false : (b : Bool) → (b ≡ true → ⊥) → b ≡ false
-is-false true n = absurd (n refl)
-is-false false n = refl
 
 -- a number out of range, and a number that has stood earlier, refute it
 pub out-of-range : (p : List ℕ) (i : ℕ) → i < length p → length p ≤ getD p i 0 → isOrdering p ≡ false

@@ -3,7 +3,6 @@ ghost use mathlib.Core.Path.{_≡_};
 ghost use Prim.Native.Nat.{ℕ, _+_, _^_, _<_, _≤_, min, max};
 ghost use lib.ListN.{length, getD, take, set};
 ghost use Rattle.desk.specs.Lists.{sums, over};
-ghost use Rattle.csc.specs.Csc.{Csc};
 ghost use Rattle.reorder.specs.Reorder.{Reorderable, Reordered, newCols, newRows};
 ghost use Rattle.reorder.specs.Steps.{ColumnReady, EntriesReady, Filled, advanced, colsOf, rowsOf, roomOf, widest};
 use csc::column;

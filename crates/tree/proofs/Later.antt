@@ -12,7 +12,7 @@ use Rattle.desk.proofs.Upto.{getD-upto, length-upto}
 use Rattle.desk.proofs.Tally.{tally-none, tally-here, tally-past}
 use Rattle.csc.specs.Csc.{rises}
 use Rattle.tree.specs.Strike.{joined, later, none, leastOr, parents, counts}
-use Rattle.tree.proofs.Tests.{is-true}
+use Rattle.desk.proofs.Both.{is-true}
 use Rattle.tree.proofs.Liu.{Parents}
 
 -- ---- the numbers in a row that pass a test

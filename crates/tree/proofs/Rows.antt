@@ -15,14 +15,14 @@ use Rattle.tree.specs.Strike.{joined, later, none, leastOr, parents, cou
 use Rattle.tree.specs.Marks.{Setting, Room, Struck, given, Climbing, Start, Climbed, Column, Next}
 use Rattle.tree.proofs.Liu.{entry-joined, row-all}
 use Rattle.tree.proofs.Later.{later-none, later-apart, are-parents, length-counts, getD-counts, length-parents, getD-parents}
-use Rattle.tree.proofs.Tests.{is-false}
+use Rattle.desk.proofs.Both.{is-false}
 use Rattle.tree.proofs.Marking.{room-set, tables-same, given-marked, given-unmarked, marks, was-marked, given-other}
 
 -- ---- before the first row
 
 module _ (n v : ℕ) (old new : List ℕ) (e : new ≡ over (replicate n v) old) where
   filled-at : (i : ℕ) → i < n → getD new i 0 ≡ v
-  filled-at i h = rw e (getD-over (replicate n v) old i 0 (omega (arith, length-replicate n v)) ∙ getD-replicate n i v 0 h)
+  filled-at i h = rw e (getD-over (replicate n v) old 0 i (omega (arith, length-replicate n v)) ∙ getD-replicate n i v 0 h)
 
   filled-room : n ≤ length old → Room n new new
   filled-room h = record { enough = omega (arith, ap length e ∙ length-filled n v old h); size = refl; past = refl }

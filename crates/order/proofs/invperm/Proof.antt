@@ -1,6 +1,6 @@
 -- `order::invperm` meets its contract. The invariant: the numbers passed are in range and different, and the inverse has their places.
 -- The measure is how many numbers are left. Assumes nothing.
-use Prim.Native.Nat.{ℕ, _≤_, _<_, _-_}
+use Prim.Native.Nat.{_≤_, _<_, _-_}
 use mathlib.Core.Path.{_≡_, sym, ap, _∙_}
 use mathlib.Core.Bool.{false≢true}
 use native.Mathlib.Omega.{arith}

@@ -1,7 +1,6 @@
 -- `order::ipermute` meets its contract. The invariant: what the loop has passed stands where the ordering sends it.
 -- The measure is how many places are left. Assumes nothing.
-use Prim.Native.Nat.{ℕ, _≤_, _<_, _-_}
-use mathlib.Core.Path.{_∙_}
+use Prim.Native.Nat.{_≤_, _<_, _-_}
 use native.Mathlib.Omega.{arith}
 use borrow.Author.Needs.{needs}
 use denote.Ref.{now}

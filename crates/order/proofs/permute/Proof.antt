@@ -1,13 +1,12 @@
 -- `order::permute` meets its contract. The invariant: x's front is the permuted list as far as the loop has come.
 -- The measure is how many places are left. Assumes nothing.
-use Prim.Native.Nat.{ℕ, _+_, _≤_, _<_, _-_}
-use mathlib.Core.Path.{_≡_, ap, _∙_}
-use mathlib.Core.List.{List}
+use Prim.Native.Nat.{_≤_, _<_, _-_}
+use mathlib.Core.Path.{_≡_}
 use native.Mathlib.Omega.{arith}
 use borrow.Author.Needs.{needs}
 use denote.Ref.{now}
 use lib.Ieee.{nan}
-use lib.ListN.{length, getD}
+use lib.ListN.{length}
 use Rattle.desk.proofs.Over.{front}
 use Rattle.order.specs.Order.{permuted}
 use Rattle.order.proofs.Orderings.{stands-below, permuted-size, permuted-more, permuted-all}

@@ -1,8 +1,7 @@
 -- `order::permute_signs` meets its contract. The invariant: dsigns' front is the permuted list as far as the loop has come.
 -- The measure is how many places are left. Assumes nothing.
-use Prim.Native.Nat.{ℕ, _+_, _≤_, _<_, _-_}
+use Prim.Native.Nat.{_≤_, _<_, _-_}
 use mathlib.Core.Path.{_≡_, ap, _∙_}
-use mathlib.Core.List.{List}
 use native.Mathlib.Omega.{arith}
 use borrow.Author.Needs.{needs}
 use denote.Ref.{now}
