@@ -122,46 +122,64 @@ below-mono c (suc e) ks h =
 
 module _ {A : Type 0} (d : A) (n : ℕ) (ks : List ℕ) (xs : List A) (same : length xs ≡ length ks) where
   -- a table that holds each column at the column's place holds them one after the other
-  joined : (R : List A) → length ks ≤ length R → ((c q : ℕ) → c < n → q < tally c ks → getD R (below c ks + q) d ≡ getD (inColumn c ks xs) q d) → (c k : ℕ) → c + k ≡ n → drop (below c ks) R ≡ gathered (from c k) ks xs ++ drop (below n ks) R
-  unfolding gathered joinAll from
-  joined R fits holds c zero e = ap (λ (i : ℕ). drop (below i ks) R) (omega arith)
-  joined R fits holds c (suc k) e =
-      let size : tally c ks ≤ length (drop (below c ks) R) = omega (arith, length-drop (below c ks) R, below-suc c ks, below-le (suc c) ks) in
-      let part : take (tally c ks) (drop (below c ks) R) ≡ inColumn c ks xs =
-      ext-getD d (take (tally c ks) (drop (below c ks) R)) (inColumn c ks xs) (length-take-le _ _ size ∙ sym (length-inColumn c ks xs same))
-      (λ q l.
-      let t : q < tally c ks = omega (arith, length-take-le (tally c ks) (drop (below c ks) R) size) in
-      getD-take (tally c ks) (drop (below c ks) R) q d t ∙ getD-drop (below c ks) R q d ∙ holds c q (omega arith) t) in
-      sym (take-append-drop (tally c ks) (drop (below c ks) R))
-      ∙ ap (λ (l : List A). l ++ drop (tally c ks) (drop (below c ks) R)) part
-      ∙ ap (λ (l : List A). inColumn c ks xs ++ l) (drop-drop (tally c ks) (below c ks) R ∙ ap (λ (i : ℕ). drop i R) (sym (below-suc c ks)) ∙ joined R fits holds (suc c) k (omega arith))
-      ∙ sym (append-assoc (inColumn c ks xs) (gathered (from (suc c) k) ks xs) (drop (below n ks) R))
+  module _ (R : List A) (fits : length ks ≤ length R) (holds : (c q : ℕ) → c < n → q < tally c ks → getD R (below c ks + q) d ≡ getD (inColumn c ks xs) q d) where
+    one : (c : ℕ) → c < n → take (tally c ks) (drop (below c ks) R) ≡ inColumn c ks xs
+    one c h =
+        let long = length-take-le (tally c ks) (drop (below c ks) R) (omega (arith, length-drop (below c ks) R, below-suc c ks, below-le (suc c) ks)) in
+        ext-getD d (take (tally c ks) (drop (below c ks) R)) (inColumn c ks xs) (long ∙ sym (length-inColumn c ks xs same))
+        (λ q l. let t : q < tally c ks = omega arith in getD-take (tally c ks) (drop (below c ks) R) q d t ∙ getD-drop (below c ks) R q d ∙ holds c q h t)
 
-  pub fills : (next : List ℕ) (out : List A) → Each n ks → n ≤ length next → ((c : ℕ) → c < n → getD next c 0 ≡ below c ks) → length ks ≤ length out → placed (places next ks) xs out ≡ over (gathered (upto n) ks xs) out
-  unfolding over
-  fills next out b l starts fits =
-      let R = placed (places next ks) xs out in
-      let long : length R ≡ length out = length-placed (places next ks) xs out in
-      let all : below n ks ≡ length ks = below-all n ks b in
-      let room : Room n (length ks) next ks = λ c h. omega (arith, starts c h, below-suc c ks, below-le (suc c) ks) in
-      let apart : Apart n next ks = λ c e k h. omega (arith, starts c (omega arith), starts e h, below-suc c ks, below-mono (suc c) e ks k) in
-      let holds : (c q : ℕ) → c < n → q < tally c ks → getD R (below c ks + q) d ≡ getD (inColumn c ks xs) q d =
-      λ c q h t.
-      ap (λ (i : ℕ). getD R (i + q) d) (sym (starts c h))
-      ∙ in-place d n ks xs next out b l apart (λ k i. omega (arith, room k i)) same c q h t in
-      let whole : R ≡ gathered (upto n) ks xs ++ drop (below n ks) R =
-      ap (λ (i : ℕ). drop i R) (sym (below-zero ks)) ∙ joined R (omega arith) holds 0 n (zero-add n) in
-      let rest : drop (length ks) R ≡ drop (length ks) out =
-      ext-getD d (drop (length ks) R) (drop (length ks) out) (omega (arith, length-drop (length ks) R, length-drop (length ks) out))
-      (λ i h.
-      getD-drop (length ks) R i d
-      ∙ untouched d n (length ks + i) ks xs next out b l (λ c k le. omega (arith, room c k))
-      ∙ sym (getD-drop (length ks) out i d)) in
-      let size : length (gathered (upto n) ks xs) ≡ length ks =
-      omega (arith, ap length whole, length-append (gathered (upto n) ks xs) (drop (below n ks) R), length-drop (below n ks) R) in
-      whole
-      ∙ ap (λ (r : List A). gathered (upto n) ks xs ++ r)
-      (ap (λ (i : ℕ). drop i R) all ∙ rest ∙ ap (λ (i : ℕ). drop i out) (sym size))
+    joined : (c k : ℕ) → c + k ≡ n → drop (below c ks) R ≡ gathered (from c k) ks xs ++ drop (below n ks) R
+    unfolding gathered joinAll from
+    joined c zero e = ap (λ (i : ℕ). drop (below i ks) R) (omega arith)
+    joined c (suc k) e =
+        sym (take-append-drop (tally c ks) (drop (below c ks) R))
+        ∙ ap (λ (l : List A). l ++ drop (tally c ks) (drop (below c ks) R)) (one c (omega arith))
+        ∙ ap (λ (l : List A). inColumn c ks xs ++ l) (drop-drop (tally c ks) (below c ks) R ∙ ap (λ (i : ℕ). drop i R) (sym (below-suc c ks)) ∙ joined (suc c) k (omega arith))
+        ∙ sym (append-assoc (inColumn c ks xs) (gathered (from (suc c) k) ks xs) (drop (below n ks) R))
+
+  -- the next free places are the columns' first ones, and the table has room for all
+  module _ (next : List ℕ) (out : List A) (b : Each n ks) (l : n ≤ length next) (starts : (c : ℕ) → c < n → getD next c 0 ≡ below c ks) (fits : length ks ≤ length out) where
+    abbrev filled : List A
+    filled = placed (places next ks) xs out
+
+    room : Room n (length ks) next ks
+    room c h = omega (arith, starts c h, below-suc c ks, below-le (suc c) ks)
+
+    apart : Apart n next ks
+    apart c e k h = omega (arith, starts c (omega arith), starts e h, below-suc c ks, below-mono (suc c) e ks k)
+
+    holds : (c q : ℕ) → c < n → q < tally c ks → getD filled (below c ks + q) d ≡ getD (inColumn c ks xs) q d
+    holds c q h t =
+        ap (λ (i : ℕ). getD filled (i + q) d) (sym (starts c h)) ∙ in-place d n ks xs next out b l apart (λ k i. omega (arith, room k i)) same c q h t
+
+    front : filled ≡ gathered (upto n) ks xs ++ drop (below n ks) filled
+    front =
+        ap (λ (i : ℕ). drop i filled) (sym (below-zero ks))
+        ∙ joined filled (omega (arith, length-placed (places next ks) xs out)) holds 0 n (zero-add n)
+
+    rest : drop (length ks) filled ≡ drop (length ks) out
+    rest =
+        ext-getD d (drop (length ks) filled) (drop (length ks) out)
+        (omega (arith, length-placed (places next ks) xs out, length-drop (length ks) filled, length-drop (length ks) out))
+        (λ i h. getD-drop (length ks) filled i d ∙ untouched d n (length ks + i) ks xs next out b l (λ c k le. omega (arith, room c k)) ∙ sym (getD-drop (length ks) out i d))
+
+    size : length (gathered (upto n) ks xs) ≡ length ks
+    size =
+        omega (
+          arith,
+          ap length front,
+          length-append (gathered (upto n) ks xs) (drop (below n ks) filled),
+          length-drop (below n ks) filled,
+          length-placed (places next ks) xs out,
+          below-all n ks b,
+        )
+
+    pub fills : placed (places next ks) xs out ≡ over (gathered (upto n) ks xs) out
+    unfolding over
+    fills =
+        front
+        ∙ ap (λ (r : List A). gathered (upto n) ks xs ++ r) (ap (λ (i : ℕ). drop i filled) (below-all n ks b) ∙ rest ∙ ap (λ (i : ℕ). drop i out) (sym size))
 
 -- the places depend on no more than the next free ones of the columns that there are
 pub places-same : (n : ℕ) (ks next other : List ℕ) → Each n ks → n ≤ length next → n ≤ length other → ((c : ℕ) → c < n → getD next c 0 ≡ getD other c 0) → places next ks ≡ places other ks

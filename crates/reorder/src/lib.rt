@@ -9,12 +9,14 @@ use csc::column;
 use desk::fill;
 use desk::wide;
 
+// The larger of two numbers of a table.
 fn max(a: u32, b: u32) -> u32
     ensures { λ r. ⌜ r ≡ max a b ⌝ }
 {
     if a < b { b } else { a }
 }
 
+// The smaller of two numbers of a table.
 fn min(a: u32, b: u32) -> u32
     ensures { λ r. ⌜ r ≡ min a b ⌝ }
 {
