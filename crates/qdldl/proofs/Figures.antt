@@ -9,7 +9,7 @@ use Rattle.reorder.specs.Reorder.{perEntry, inColumn, gathered, starts, places,
 use Rattle.tree.specs.Strike.{entry, joined, later, parents, counts, rowsOfL, pointersOfL}
 use Rattle.qdldl.specs.Calls.{settled}
 use Rattle.qdldl.specs.Analysis.{badLengths, analysisRefusals, analysedTables, analysis}
-use Rattle.qdldl.specs.Figures.{Figure, figures}
+use Rattle.qdldl.specs.Figures.{figures}
 
 pub figures-hold : map (λ f. f .given) figures ≡ map (λ f. f .printed) figures
 unfolding from any all keep joinAll tally sums total over first column fall badPointers malformed notUpper emptyColumn rises unsortedColumn isOrdering placeOf inverse permuted perEntry inColumn gathered starts places reordered mapOf entry joined later parents counts rowsOfL pointersOfL settled badLengths analysisRefusals analysedTables analysis figures

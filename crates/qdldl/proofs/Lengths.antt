@@ -1,7 +1,7 @@
 -- What the lists lent to the analysis measure where no length is bad. Assumes nothing.
 use Prim.Native.Nat.{ℕ, _+_, _≤_}
 use mathlib.Core.Path.{_≡_}
-use mathlib.Core.Bool.{Bool, false, _&&_, _||_}
+use mathlib.Core.Bool.{false, _&&_, _||_}
 use mathlib.Core.Logic.{_⊎_, inl, inr, ⊎-elim}
 use mathlib.Core.List.{List, [], _∷_}
 use lib.IntN.{ℤ}
@@ -9,7 +9,7 @@ use lib.ListN.{length}
 use Rattle.desk.specs.Lists.{any, isnt, short}
 use Rattle.desk.proofs.Both.{neither, not-both, is-long, has-room}
 use Rattle.csc.specs.Csc.{Csc}
-use Rattle.qdldl.specs.Analysis.{Written, AnalysisLent, analysisLent, badLengths}
+use Rattle.qdldl.specs.Analysis.{Written, analysisLent, badLengths}
 
 pub record Lengths (n : ℕ) (A : Csc) (perm : List ℕ) (signs : List ℤ) (out : Written) (a b c : List ℕ) : Type 0 where
   pub pointers : length (A .colptr) ≡ n + 1

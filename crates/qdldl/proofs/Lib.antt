@@ -1,2 +1,5 @@
+pub mod Accepted
 pub mod Figures
 pub mod Lengths
+pub mod Once
+pub mod Tables

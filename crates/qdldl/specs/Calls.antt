@@ -1,9 +1,9 @@
 -- Document 01: the status, what every call answers, and the read-outs. Assumes nothing.
 use Prim.Native.Nat.{ℕ}
+use mathlib.Core.Path.{_≡_}
 use mathlib.Core.Bool.{Bool, true, false, cond}
 use mathlib.Core.List.{List, []}
 use Rattle.desk.specs.Desk.{numberOf, valuesOf}
-use Rattle.desk.specs.declared.Refusal.{Refusal}
 use Rattle.desk.specs.declared.Verdict.{Verdict}
 use Rattle.desk.specs.declared.Verdict.the-variants.{Accepted, Refused}
 use Rattle.qdldl.specs.declared.Phase.{Phase}
@@ -55,6 +55,11 @@ outcome answer tables = record { answer = answer; tables = tables }
 unfoldable pub settled : {T : Type 0} → Verdict → Status → T → Outcome T → Outcome T
 settled Accepted s tables done = done
 settled (Refused r) s tables done = outcome (Answer.Refused r s) tables
+
+-- a call's promise: its reply, and every list lent to it afterwards, are the outcome's
+pub record Settles {T : Type 0} (o : Outcome T) (r : Answer) (t : T) : Type 0 where
+  pub reply : r ≡ o .answer
+  pub lists : t ≡ o .tables
 
 -- "On Empty the four read-outs are 0; else nnzA is the status's m and nnzL its length of L."
 abbrev pub readOut : Status → ℕ → ℕ

@@ -8,7 +8,7 @@ use Rattle.csc.specs.Csc.{Csc}
 use Rattle.order.specs.Order.{inverse}
 use Rattle.tree.specs.Strike.{none, rowsOfL, pointersOfL}
 use Rattle.qdldl.specs.declared.Phase.the-variants.{Empty}
-use Rattle.qdldl.specs.Calls.{Outcome, answerNumber, status}
+use Rattle.qdldl.specs.Calls.{answerNumber, status}
 use Rattle.qdldl.specs.Analysis.{Written, AnalysisLent, analysis, triangle, joins}
 
 -- what the definitions give, and what the paper prints

@@ -6,8 +6,9 @@ ghost use lib.IntN.{pos};
 ghost use lib.ListN.{length, replicate};
 ghost use Rattle.desk.specs.Lists.{over};
 ghost use Rattle.csc.specs.Csc.{matrix};
-ghost use Rattle.qdldl.specs.Steps.{Judged, SignsFit};
-ghost use Rattle.qdldl.specs.Analysis.{written, analysisLent, badLengths, newSigns};
+ghost use Rattle.qdldl.specs.Steps.{Judged, SignsFit, Computable, Computed};
+ghost use Rattle.qdldl.specs.Analysis.{written, analysisLent, badLengths, newSigns, analysis};
+ghost use Rattle.qdldl.specs.Calls.{Settles};
 use desk::Refusal;
 use desk::Verdict;
 
@@ -162,5 +163,122 @@ fn permuted_signs(perm: &[u32], signs: &[i8], dsigns: &mut [i8])
         plus_signs(dsigns, perm.len());
     } else {
         order::permute_signs(dsigns, signs, perm);
+    }
+}
+
+// Writes the tables of an accepted analysis, and answers the length of L. iperm is the inverse ordering; next and work are scratch.
+fn compute(
+    colptr: &[u32],
+    rowval: &[u32],
+    nzval: &[f64],
+    perm: &[u32],
+    signs: &[i8],
+    pc: &mut [u32],
+    pr: &mut [u32],
+    pv: &mut [f64],
+    map: &mut [u32],
+    etree: &mut [u32],
+    lnz: &mut [u32],
+    dsigns: &mut [i8],
+    iperm: &[u32],
+    next: &mut [u32],
+    work: &mut [u32],
+) -> usize
+    requires { ⌜ Computable (matrix (now colptr) (now rowval) (now nzval)) (now perm) (now signs) (written (matrix (now pc) (now pr) (now pv)) (now map) (now etree) (now lnz) (now dsigns)) (now iperm) (now next) (now work) ⌝ }
+    ensures { λ r. ⌜ Computed (matrix (now (colptr .entry)) (now (rowval .entry)) (now (nzval .entry))) (now (perm .entry)) (now (signs .entry)) (written (matrix (now (pc .entry)) (now (pr .entry)) (now (pv .entry))) (now (map .entry)) (now (etree .entry)) (now (lnz .entry)) (now (dsigns .entry))) (written (matrix (now (pc .exit)) (now (pr .exit)) (now (pv .exit))) (now (map .exit)) (now (etree .exit)) (now (lnz .exit)) (now (dsigns .exit))) r ⌝ }
+{
+    let n = perm.len();
+    let m = rowval.len();
+    reorder::permute_symmetric(
+        colptr,
+        rowval,
+        nzval,
+        iperm,
+        &mut *pc,
+        &mut *pr,
+        &mut *pv,
+        &mut *map,
+        next,
+    );
+    let last = n + 1;
+    tree::etree(n, &pc[..last], &pr[..m], work, &mut *lnz, &mut *etree);
+    permuted_signs(perm, signs, dsigns);
+    tree::sum(&lnz[..n])
+}
+
+impl Status {
+    // Analysis, from any status.
+    pub fn analyse(
+        self,
+        nrows: usize,
+        n: usize,
+        colptr: &[u32],
+        rowval: &[u32],
+        nzval: &[f64],
+        perm: &[u32],
+        signs: &[i8],
+        pc: &mut [u32],
+        pr: &mut [u32],
+        pv: &mut [f64],
+        map: &mut [u32],
+        etree: &mut [u32],
+        lnz: &mut [u32],
+        dsigns: &mut [i8],
+        iperm: &mut [u32],
+        next: &mut [u32],
+        work: &mut [u32],
+    ) -> Answer
+        ensures { λ r. ⌜ Settles (analysis self (analysisLent nrows n (matrix (now (colptr .entry)) (now (rowval .entry)) (now (nzval .entry))) (now (perm .entry)) (now (signs .entry)) (written (matrix (now (pc .entry)) (now (pr .entry)) (now (pv .entry))) (now (map .entry)) (now (etree .entry)) (now (lnz .entry)) (now (dsigns .entry))) (now (iperm .entry) ∷ now (next .entry) ∷ now (work .entry) ∷ []))) r (written (matrix (now (pc .exit)) (now (pr .exit)) (now (pv .exit))) (now (map .exit)) (now (etree .exit)) (now (lnz .exit)) (now (dsigns .exit))) ⌝ }
+    {
+        let verdict = judge(
+            nrows,
+            n,
+            colptr,
+            rowval,
+            nzval,
+            perm,
+            signs,
+            &pc[..],
+            &pr[..],
+            &pv[..],
+            &map[..],
+            &etree[..],
+            &lnz[..],
+            &dsigns[..],
+            &mut *iperm,
+            &next[..],
+            &work[..],
+        );
+        match verdict {
+            Verdict::Refused(refusal) => Answer::Refused(refusal, self),
+            Verdict::Accepted => {
+                let nnzl = compute(
+                    colptr,
+                    rowval,
+                    nzval,
+                    perm,
+                    signs,
+                    pc,
+                    pr,
+                    pv,
+                    map,
+                    etree,
+                    lnz,
+                    dsigns,
+                    &iperm[..n],
+                    next,
+                    work,
+                );
+                let m = rowval.len();
+                Answer::Done(Status {
+                    phase: Phase::Analysed,
+                    n,
+                    m,
+                    nnzl,
+                    inertia: 0,
+                    shifts: 0,
+                })
+            }
+        }
     }
 }

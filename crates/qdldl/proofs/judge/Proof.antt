@@ -1,14 +1,13 @@
 -- `qdldl::judge` meets its contract: each test that fails passes its line of the refusals over, and the first that holds is given.
 -- Assumes nothing.
 use Prim.Native.Nat.{ℕ, _≤_}
-use mathlib.Core.Path.{_≡_, refl, sym, ap, _∙_}
-use mathlib.Core.Bool.{Bool, true, false, not}
+use mathlib.Core.Path.{_≡_, sym, ap, _∙_}
+use mathlib.Core.Bool.{not}
 use mathlib.Core.List.{List, [], _∷_}
 use native.Mathlib.Omega.{arith}
 use borrow.Author.Needs.{needs}
 use borrow.Author.Tests.{eq-eqb, ne-eqb}
 use denote.Ref.{now}
-use lib.Dec.{eqb}
 use lib.ListN.{length, drop}
 use Rattle.desk.specs.Desk.{Line, first}
 use Rattle.desk.specs.declared.Refusal.{Refusal}
