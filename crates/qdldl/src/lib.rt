@@ -1,5 +1,6 @@
 // The status and the public calls.
 ghost use mathlib.Core.Path.{_≡_};
+ghost use mathlib.Core.Bool.{cond};
 ghost use mathlib.Core.List.{[], _∷_};
 ghost use Prim.Native.Nat.{_≤_};
 ghost use lib.IntN.{pos};
@@ -8,7 +9,7 @@ ghost use Rattle.desk.specs.Lists.{over};
 ghost use Rattle.csc.specs.Csc.{matrix};
 ghost use Rattle.qdldl.specs.Steps.{Judged, SignsFit, Computable, Computed};
 ghost use Rattle.qdldl.specs.Analysis.{written, analysisLent, badLengths, newSigns, analysis};
-ghost use Rattle.qdldl.specs.Calls.{Settles};
+ghost use Rattle.qdldl.specs.Calls.{Settles, isEmpty, nnzA, nnzL, positiveInertia, regularizeCount};
 use desk::Refusal;
 use desk::Verdict;
 
@@ -206,7 +207,52 @@ fn compute(
     tree::sum(&lnz[..n])
 }
 
+// x, but 0 on Empty.
+fn read_out(phase: Phase, x: usize) -> usize
+    ensures { λ r. ⌜ r ≡ cond (isEmpty phase) 0 x ⌝ }
+{
+    match phase {
+        Phase::Empty => 0,
+        Phase::Analysed => x,
+        Phase::Logical => x,
+        Phase::Numeric => x,
+        Phase::Failed => x,
+    }
+}
+
 impl Status {
+    // The entries of the matrix, 0 on Empty.
+    pub fn nnzA(self) -> usize
+        ensures { λ r. ⌜ r ≡ nnzA self ⌝ }
+    {
+        let phase = self.phase;
+        read_out(phase, self.m)
+    }
+
+    // The entries of L, 0 on Empty.
+    pub fn nnzL(self) -> usize
+        ensures { λ r. ⌜ r ≡ nnzL self ⌝ }
+    {
+        let phase = self.phase;
+        read_out(phase, self.nnzl)
+    }
+
+    // The pivots above zero, 0 on Empty.
+    pub fn positive_inertia(self) -> usize
+        ensures { λ r. ⌜ r ≡ positiveInertia self ⌝ }
+    {
+        let phase = self.phase;
+        read_out(phase, self.inertia)
+    }
+
+    // The pivots that were shifted, 0 on Empty.
+    pub fn regularize_count(self) -> usize
+        ensures { λ r. ⌜ r ≡ regularizeCount self ⌝ }
+    {
+        let phase = self.phase;
+        read_out(phase, self.shifts)
+    }
+
     // Analysis, from any status.
     pub fn analyse(
         self,
