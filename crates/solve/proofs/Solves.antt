@@ -20,10 +20,10 @@ falling i = ap reverse (from-more 0 i) ∙ reverse-append (upto i) ((0 + i) ∷ 
 
 module _ (lp li : List ℕ) (lx : List Float) (i : ℕ) (x : List Float) where
   module _ (n : ℕ) where
-    pub lsolved-more : {rows : List ℕ} {vals : List Float} → i < n → rows ≡ column lp li i → vals ≡ column lp lx i →
-        lsolved lp li lx (from (i + 1) (n - (i + 1))) (scattered rows vals (getD x i nan) x) ≡ lsolved lp li lx (from i (n - i)) x
+    pub lsolved-more : {rows : List ℕ} {vals y : List Float} → i < n → rows ≡ column lp li i → vals ≡ column lp lx i → y ≡ scattered rows vals (getD x i nan) x →
+        lsolved lp li lx (from (i + 1) (n - (i + 1))) y ≡ lsolved lp li lx (from i (n - i)) x
     unfolding lsolved from
-    lsolved-more h r v = let e : n - i ≡ suc (n - suc i) = omega arith in rw (add-one i, e, r, v)
+    lsolved-more h r v t = let e : n - i ≡ suc (n - suc i) = omega arith in rw (add-one i, e, t, r, v)
 
     pub lsolved-done : n ≤ i → x ≡ lsolved lp li lx (from i (n - i)) x
     unfolding lsolved from

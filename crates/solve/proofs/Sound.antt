@@ -1,9 +1,8 @@
--- What an L that passed its test has: pointers that rise and end inside, and rows of column i below n; and what follows of a column that
--- is lent as the part between its two pointers. Assumes nothing.
+-- Of an L that passed its test, what a column has that is lent as the part between its two pointers; and the test itself. Assumes nothing.
 use Prim.Native.Nat.{ℕ, zero, suc, _+_, _-_, _<_, _≤_}
 use mathlib.Core.Path.{_≡_, refl, sym, ap, _∙_}
-use mathlib.Core.Bool.{Bool, false, not, _&&_, _||_}
-use mathlib.Core.List.{List}
+use mathlib.Core.Bool.{Bool, true, false, not, _&&_, _||_}
+use mathlib.Core.List.{List, [], _∷_}
 use native.Mathlib.Numerals.{add-one}
 use native.Mathlib.Omega.{arith}
 use borrow.Author.Tests.{not-false, ltb-true, ltb-false}
@@ -25,6 +24,20 @@ outsideOf n i r = not (ltb i r && ltb r n)
 
 abbrev pub spoiledAt : ℕ → List ℕ → List ℕ → ℕ → Bool
 spoiledAt n lp li i = any (outsideOf n i) (column lp li i)
+
+-- a part by its start and its end
+abbrev part : {A : Type 0} → ℕ → ℕ → List A → List A
+part a e l = take (e - a) (drop a l)
+
+-- column i, lent as the part of L from a to e
+pub record Lent (n : ℕ) (lp li : List ℕ) (lx : List Float) (i a e : ℕ) : Type 0 where
+  pub rises : a ≤ e
+  pub in-rows : e ≤ length li
+  pub in-vals : e ≤ length lx
+  pub rows-are : part a e li ≡ column lp li i
+  pub vals-are : part a e lx ≡ column lp lx i
+  pub as-many : length (part a e li) ≡ length (part a e lx)
+  pub below : (k : ℕ) → k < length (part a e li) → getD (part a e li) k 0 < n
 
 module _ {n : ℕ} {lp li : List ℕ} {lx : List Float} (F : Factored n lp li lx) where
   last : ℕ
@@ -63,32 +76,48 @@ module _ {n : ℕ} {lp li : List ℕ} {lx : List Float} (F : Factored n lp li lx
   below-end c (suc k) e = omega (arith, passed .rises c (omega arith), below-end (c + 1) k (omega arith))
 
   module _ {i a e : ℕ} (h : i < n) (p : a ≡ getD lp i 0) (q : e ≡ getD lp (i + 1) 0) where
-    pub part-rises : a ≤ e
-    part-rises = omega (arith, passed .rises i h)
+    rising : a ≤ e
+    rising = omega (arith, passed .rises i h)
 
     ends-below : e ≤ last
     ends-below = omega (arith, below-end (i + 1) (n - (i + 1)) (omega arith))
 
-    pub part-rows : e ≤ length li
-    part-rows = omega (arith, ends-below, passed .rows)
+    part-is : {A : Type 0} (l : List A) → e ≤ length l → part a e l ≡ column lp l i
+    part-is l s = column-part lp l i p q (omega (arith, F .pointers)) rising s
 
-    pub part-vals : e ≤ length lx
-    part-vals = omega (arith, ends-below, passed .vals)
-
-    pub rows-are : take (e - a) (drop a li) ≡ column lp li i
-    rows-are = column-part lp li i p q (omega (arith, F .pointers)) part-rises part-rows
-
-    pub vals-are : take (e - a) (drop a lx) ≡ column lp lx i
-    vals-are = column-part lp lx i p q (omega (arith, F .pointers)) part-rises part-vals
-
-    part-length : {A : Type 0} (l : List A) → e ≤ length l → length (take (e - a) (drop a l)) ≡ e - a
+    part-length : {A : Type 0} (l : List A) → e ≤ length l → length (part a e l) ≡ e - a
     part-length l s = length-take-le (e - a) (drop a l) (omega (arith, length-drop a l))
 
-    pub as-many : length (take (e - a) (drop a li)) ≡ length (take (e - a) (drop a lx))
-    as-many = part-length li part-rows ∙ sym (part-length lx part-vals)
+    row-below : part a e li ≡ column lp li i → (k : ℕ) → k < length (part a e li) → getD (part a e li) k 0 < n
+    row-below r k l =
+        let row = getD (column lp li i) k 0 in
+        let test = none-from (spoiledAt n lp li) 0 n i (passed .columns) (omega arith) (omega arith) in
+        rw r (ltb-true row n (both (ltb i row) (ltb row n) (not-false _ (none-at (outsideOf n i) 0 (column lp li i) test k (rw r at l))) .1))
 
-    pub rows-inside : (k : ℕ) → k < length (take (e - a) (drop a li)) → getD (take (e - a) (drop a li)) k 0 < n
-    rows-inside k l =
-        let fits = none-at (outsideOf n i) 0 _ (none-from (spoiledAt n lp li) 0 n i (passed .columns) (omega arith) (omega arith)) k (rw rows-are at l) in
-        let r = getD (column lp li i) k 0 in
-        rw rows-are (ltb-true r n (both (ltb i r) (ltb r n) (not-false _ fits) .1))
+    pub lent : Lent n lp li lx i a e
+    lent =
+        let in-rows : e ≤ length li = omega (arith, ends-below, passed .rows) in
+        let in-vals : e ≤ length lx = omega (arith, ends-below, passed .vals) in
+        record {
+          rises = rising;
+          in-rows = in-rows;
+          in-vals = in-vals;
+          rows-are = part-is li in-rows;
+          vals-are = part-is lx in-vals;
+          as-many = part-length li in-rows ∙ sym (part-length lx in-vals);
+          below = row-below (part-is li in-rows);
+        }
+
+-- ---- the test itself
+
+-- the three tests before the columns, and the columns
+pub spoiled-is : (n : ℕ) (lp li : List ℕ) (lx : List Float) {l : ℕ} {t f : Bool} → l ≡ getD lp (length lp - 1) 0 → t ≡ badPointers l lp →
+    (t || ltb (length li) l || ltb (length lx) l) ≡ f → (f || any (spoiledAt n lp li) (upto n)) ≡ spoiledL n lp li lx
+unfolding spoiledL
+spoiled-is n lp li lx p q r = rw (← r, q, p)
+
+-- with no pointer at all
+pub spoiled-empty : (n : ℕ) (lp li : List ℕ) (lx : List Float) → length lp ≡ 0 → true ≡ spoiledL n lp li lx
+unfolding spoiledL badPointers
+spoiled-empty n [] li lx e = refl
+spoiled-empty n (x ∷ lp) li lx e = absurd (omega arith)
