@@ -7,12 +7,15 @@ use native.Mathlib.Numerals.{add-one}
 use native.Mathlib.Omega.{arith}
 use lib.Ieee.{Float, nan}
 use lib.ListN.{length, getD, set}
-use Rattle.desk.specs.Lists.{from, upto}
+use Rattle.desk.specs.Lists.{from, upto, over}
+use Rattle.desk.proofs.Over.{over-whole}
 use Rattle.csc.specs.Csc.{column}
+use Rattle.order.specs.Order.{permuted, ipermuted}
+use Rattle.order.proofs.Orderings.{length-permuted, length-ipermuted}
 use Rattle.pivot.specs.Pivots.{_⊖_, _⊗_, +0}
 use Rattle.row.specs.Row.{scattered}
 use Rattle.tree.proofs.Later.{from-more}
-use Rattle.solve.specs.Solve.{lsolved, summed, dltsolved}
+use Rattle.solve.specs.Solve.{lsolved, summed, dltsolved, solved}
 
 -- the last of the numbers below i + 1 comes first
 pub falling : (i : ℕ) → reverse (upto (suc i)) ≡ i ∷ reverse (upto i)
@@ -38,3 +41,14 @@ module _ (lp li : List ℕ) (lx : List Float) (i : ℕ) (x : List Float) where
     pub dltsolved-done : i ≤ 0 → x ≡ dltsolved lp li lx dinv (reverse (upto i)) x
     unfolding dltsolved from
     dltsolved-done h = let e : i ≡ 0 = omega arith in rw e
+
+-- the whole solve, on a part y of just the order's length, and on a right side as long
+pub solved-is : (perm lp li : List ℕ) (lx dinv b y₀ : List Float) {y₁ y₂ y₃ x : List Float} → let n = length perm in
+    length y₀ ≡ n → length y₁ ≡ n → length y₂ ≡ n → length b ≡ n → y₁ ≡ over (permuted nan perm b) y₀ → y₂ ≡ lsolved lp li lx (upto (length y₁)) y₁ →
+    y₃ ≡ dltsolved lp li lx dinv (reverse (upto (length y₂))) y₂ → x ≡ over (ipermuted nan perm y₃) b → x ≡ solved n perm lp li lx dinv b
+unfolding solved
+solved-is perm lp li lx dinv b y₀ {y₁} {y₂} {y₃} h₀ h₁ h₂ k p l d i =
+    let front : y₁ ≡ permuted nan perm b = p ∙ over-whole (permuted nan perm b) y₀ (omega (arith, length-permuted nan perm b)) in
+    i
+    ∙ over-whole (ipermuted nan perm y₃) b (omega (arith, length-ipermuted nan perm y₃))
+    ∙ rw (d, h₂, l, h₁, front)

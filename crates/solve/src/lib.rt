@@ -133,9 +133,9 @@ pub fn solve(
     requires { ⌜ Solvable (now perm) (now lp) (now li) (now lx) (now dinv) (now b) (now x) ⌝ }
     ensures { λ _. ⌜ now (b .exit) ≡ solved (length (now (perm .entry))) (now (perm .entry)) (now (lp .entry)) (now (li .entry)) (now (lx .entry)) (now (dinv .entry)) (now (b .entry)) ⌝ }
 {
-    let n = perm.len();
-    permute(&mut *x, &b[..], perm);
-    lsolve(lp, li, lx, &mut x[..n]);
-    dltsolve(lp, li, lx, dinv, &mut x[..n]);
-    ipermute(&mut *b, &x[..n], perm);
+    let y = &mut x[..perm.len()];
+    permute(&mut *y, &b[..], perm);
+    lsolve(lp, li, lx, &mut *y);
+    dltsolve(lp, li, lx, dinv, &mut *y);
+    ipermute(&mut *b, &y[..], perm);
 }
