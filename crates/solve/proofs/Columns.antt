@@ -1,21 +1,15 @@
 -- What one column does to x, entry by entry: a turn of the loop over its rows is a step of the definition, and at the end nothing is left.
--- And what all of it keeps. Assumes nothing.
-use Prim.Native.Nat.{ℕ, suc, _+_, _<_, _≤_}
-use mathlib.Core.Path.{_≡_, refl, _∙_}
-use mathlib.Core.List.{List, [], _∷_}
+-- Assumes nothing.
+use Prim.Native.Nat.{ℕ, _+_, _<_, _≤_}
+use mathlib.Core.Path.{_≡_}
+use mathlib.Core.List.{List}
 use native.Mathlib.Numerals.{add-one}
 use lib.Ieee.{Float, nan}
-use lib.ListN.{length, getD, drop, set, length-set, drop-of-length-le}
+use lib.ListN.{length, getD, drop, set, drop-of-length-le}
 use lib.Seq.{drop-cons}
 use Rattle.pivot.specs.Pivots.{_⊕_, _⊖_, _⊗_}
 use Rattle.row.specs.Row.{scattered}
 use Rattle.solve.specs.Solve.{summed}
-
-pub length-scattered : (rows : List ℕ) (vals : List Float) (v : Float) (x : List Float) → length (scattered rows vals v x) ≡ length x
-unfolding scattered
-length-scattered [] vals v x = refl
-length-scattered (r ∷ rows) [] v x = refl
-length-scattered (r ∷ rows) (l ∷ vals) v x = length-scattered rows vals v (set x r (getD x r nan ⊖ l ⊗ v)) ∙ length-set x r _
 
 module _ (rows : List ℕ) (vals : List Float) (j : ℕ) where
   module _ (h : j < length rows) (k : j < length vals) {r : ℕ} (q : r ≡ getD rows j 0) where

@@ -78,12 +78,12 @@ pub fn spoiled(n: usize, lp: &[u32], li: &[u32], lx: &[f64]) -> bool
     if bad_pointers(lp, last) | (li.len() < last) | (lx.len() < last) {
         return true;
     }
-    let mut i: usize = 0;
-    while i < n {
-        if outside(column(lp, li, i), i, n) {
+    let mut c: usize = 0;
+    while c < n {
+        if outside(column(lp, li, c), c, n) {
             return true;
         }
-        i += 1;
+        c += 1;
     }
     false
 }

@@ -1,12 +1,12 @@
 -- `solve::dltsolve` meets its contract. The invariant: what is left of the columns gives what all of them do, and x keeps its length.
 -- The measure is how many columns are left. Assumes nothing.
-use borrow.Author.Needs.{needs}
-use Prim.Native.Nat.{_<_, _≤_, _-_}
-use mathlib.Core.Path.{_≡_, refl, sym, ap, _∙_}
+use Prim.Native.Nat.{_≤_, _-_}
+use mathlib.Core.Path.{_≡_, refl, _∙_}
 use mathlib.Core.List.{reverse}
 use native.Mathlib.Omega.{arith}
+use borrow.Author.Needs.{needs}
 use denote.Ref.{now}
-use lib.ListN.{length, getD, length-set}
+use lib.ListN.{length, length-set}
 use Rattle.desk.specs.Lists.{upto}
 use Rattle.solve.specs.Solve.{dltsolved}
 use Rattle.solve.proofs.Solves.{dltsolved-more, dltsolved-done}

@@ -1,10 +1,10 @@
 -- `solve::gather` meets its contract. The invariant: what is left of the rows, from the sum so far, gives what all of them do from +0.
 -- The measure is how many rows are left. Assumes nothing.
+use Prim.Native.Nat.{_<_, _-_}
+use mathlib.Core.Path.{_≡_, refl, _∙_}
 use native.Mathlib.Omega.{arith}
 use borrow.Author.Needs.{needs}
 use denote.Ref.{now}
-use Prim.Native.Nat.{_<_, _-_}
-use mathlib.Core.Path.{_≡_, refl, _∙_}
 use lib.ListN.{length, drop}
 use Rattle.pivot.specs.Pivots.{+0}
 use Rattle.solve.specs.Solve.{summed}

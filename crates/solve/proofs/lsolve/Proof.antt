@@ -1,12 +1,12 @@
 -- `solve::lsolve` meets its contract. The invariant: what is left of the columns gives what all of them do, and x keeps its length.
 -- The measure is how many columns are left. Assumes nothing.
-use borrow.Author.Needs.{needs}
-use Prim.Native.Nat.{_<_, _-_}
-use mathlib.Core.Path.{_≡_, refl, sym, ap, _∙_}
+use Prim.Native.Nat.{_-_}
+use mathlib.Core.Path.{_≡_, refl, _∙_}
 use native.Mathlib.Nat.{sub-zero}
 use native.Mathlib.Omega.{arith}
+use borrow.Author.Needs.{needs}
 use denote.Ref.{now}
-use lib.ListN.{length, getD}
+use lib.ListN.{length}
 use Rattle.desk.specs.Lists.{from, upto}
 use Rattle.solve.specs.Solve.{lsolved}
 use Rattle.solve.proofs.Solves.{lsolved-more, lsolved-done}

@@ -1,18 +1,17 @@
 -- `solve::outside` meets its contract. The invariant: what is left of the rows answers as all of them do.
 -- The measure is how many rows are left. Assumes nothing.
-use borrow.Author.Needs.{needs}
 use Prim.Native.Nat.{_-_}
 use mathlib.Core.Path.{_≡_}
-use mathlib.Core.Bool.{not, _&&_}
-use lib.Dec.{ltb}
+use borrow.Author.Needs.{needs}
 use lib.ListN.{length, drop}
 use Rattle.desk.specs.Lists.{any}
 use Rattle.desk.proofs.Any.{list-found, list-passed, list-done}
+use Rattle.solve.proofs.Sound.{outsideOf}
 use Rattle.solve.proofs.outside.Statement.{statement}
 use Rattle.solve.proofs.outside.Tie as tie
 
 abbrev Inv-loop : tie.InvT-loop
-Inv-loop rows i n j₀ j = any (λ k. not (ltb i k && ltb k n)) (drop j rows) ≡ any (λ k. not (ltb i k && ltb k n)) rows
+Inv-loop rows i n j₀ j = any (outsideOf n i) (drop j rows) ≡ any (outsideOf n i) rows
 
 abbrev μ-loop : tie.MeasureT-loop
 μ-loop rows i n j₀ j = length rows - j

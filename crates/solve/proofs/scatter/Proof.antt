@@ -1,9 +1,9 @@
 -- `solve::scatter` meets its contract. The invariant: what is left of the rows gives what all of them do, and x keeps its length.
 -- The measure is how many rows are left. Assumes nothing.
-use native.Mathlib.Omega.{arith}
-use borrow.Author.Needs.{needs}
 use Prim.Native.Nat.{_<_, _-_}
 use mathlib.Core.Path.{_≡_, refl, _∙_}
+use native.Mathlib.Omega.{arith}
+use borrow.Author.Needs.{needs}
 use lib.ListN.{length, drop, length-set}
 use Rattle.row.specs.Row.{scattered}
 use Rattle.solve.proofs.Columns.{scattered-more, scattered-done}

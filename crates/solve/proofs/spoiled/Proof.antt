@@ -1,13 +1,11 @@
 -- `solve::spoiled` meets its contract. The invariant: what is left of the columns answers for all of L.
 -- The measure is how many columns are left. Assumes nothing.
-use borrow.Author.Needs.{needs}
 use Prim.Native.Nat.{ℕ, _-_}
-use mathlib.Core.Path.{_≡_, refl, sym, _∙_}
+use mathlib.Core.Path.{_≡_, sym}
 use mathlib.Core.Bool.{Bool}
 use mathlib.Core.List.{List}
 use native.Mathlib.Nat.{sub-zero}
-use denote.Ref.{now}
-use lib.ListN.{length, getD}
+use borrow.Author.Needs.{needs}
 use Rattle.desk.specs.Lists.{any, from}
 use Rattle.desk.proofs.Any.{below-found, below-passed, below-done}
 use Rattle.solve.specs.Solve.{spoiledL}
@@ -16,10 +14,10 @@ use Rattle.solve.proofs.spoiled.Statement.{statement}
 use Rattle.solve.proofs.spoiled.Tie as tie
 
 abbrev Inv-loop : tie.InvT-loop
-Inv-loop n lp li lx end last i₀ i = any (spoiledAt n lp li) (from i (n - i)) ≡ spoiledL n lp li lx
+Inv-loop n lp li lx end last c₀ c = any (spoiledAt n lp li) (from c (n - c)) ≡ spoiledL n lp li lx
 
 abbrev μ-loop : tie.MeasureT-loop
-μ-loop n lp li lx end last i₀ i = n - i
+μ-loop n lp li lx end last c₀ c = n - c
 
 -- a call's answer, of the part that it was lent, is the test of the column
 tested : (n i : ℕ) {t b : Bool} {part rows : List ℕ} → part ≡ rows → t ≡ any (outsideOf n i) part → t ≡ b → any (outsideOf n i) rows ≡ b
@@ -60,8 +58,8 @@ returns-3 c =
     let turn = c .before .before .before in
     below-found _ _ _ (turn .before .loop .inv) (turn .loop-test .taken) (tested _ _ (c .before .before .column .ensures) (c .before .outside .ensures) (c .if3 .taken))
 
-add-i : tie.Need-add-i Inv-loop μ-loop
-add-i c = search needs
+add-c : tie.Need-add-c Inv-loop μ-loop
+add-c c = search needs
 
 loop-less : tie.Need-loop-less Inv-loop μ-loop
 loop-less c = search needs
@@ -91,7 +89,7 @@ spoiled-spec =
     column-requires
     outside-requires
     returns-3
-    add-i
+    add-c
     loop-less
     loop-again
     returns-4)
