@@ -1,98 +1,91 @@
 // A royalty pool shared by three pictures, the arrow of document 01: each step and each refusal in words.
-use desk::Refusal;
-use desk::Verdict;
+use qdldl::Answer;
+use qdldl::Phase;
+use qdldl::Status;
+use say::numbers;
+use say::text;
 
-fn say(text: &[u8]) {
-    io::write_all(1, text);
-}
-
-fn say_number(x: u32) {
-    say(b" ");
-    io::print_decimal(1, x as u64);
-}
-
-fn end_line() {
-    say(b"\n");
-}
-
-fn say_numbers(xs: &[u32]) {
-    let mut i: usize = 0;
-    while i < xs.len() {
-        say_number(xs[i]);
-        i += 1;
-    }
-    end_line();
-}
-
-fn say_refusal(refusal: Refusal) {
-    say(b"  refused ");
-    io::print_decimal(1, desk::number(refusal) as u64);
-    match refusal {
-        Refusal::MalformedMatrix => say(b": the pointers or a row do not fit the matrix\n"),
-        Refusal::NotUpperTriangular => say(b": a row exceeds its column\n"),
-        Refusal::EmptyColumn => say(b": a picture has no entry\n"),
-        Refusal::UnsortedColumn => say(b": the rows of a column do not rise\n"),
-        Refusal::InvalidPermutation => say(b": the ordering is not each picture once\n"),
-        _ => say(b"\n"),
-    }
-}
-
-// The faults of a matrix, lowest number first.
-fn judge(n: usize, colptr: &[u32], rowval: &[u32]) -> Verdict {
-    if csc::malformed_matrix(n, colptr, rowval) {
-        return Verdict::Refused(Refusal::MalformedMatrix);
-    }
-    if csc::not_upper_triangular(n, colptr, rowval) {
-        return Verdict::Refused(Refusal::NotUpperTriangular);
-    }
-    if csc::empty_column(n, colptr, rowval) {
-        return Verdict::Refused(Refusal::EmptyColumn);
-    }
-    if csc::unsorted_column(n, colptr, rowval) {
-        return Verdict::Refused(Refusal::UnsortedColumn);
-    }
-    Verdict::Accepted
-}
-
-fn say_matrix(n: usize, colptr: &[u32], rowval: &[u32]) {
-    say(b"pointers");
-    say_numbers(colptr);
-    say(b"rows");
-    say_numbers(rowval);
-    match judge(n, colptr, rowval) {
-        Verdict::Accepted => say(b"  accepted\n"),
-        Verdict::Refused(refusal) => say_refusal(refusal),
-    }
-}
-
-fn say_ordering(perm: &[u32; 3]) {
+// Analyses the matrix of three pictures in the order given, and says what came of it.
+fn analyse(colptr: &[u32], rowval: &[u32], nzval: &[f64], perm: &[u32]) {
+    let mut pc = [0u32; 4];
+    let mut pr = [0u32; 5];
+    let mut pv = [0f64; 5];
+    let mut map = [0u32; 5];
+    let mut etree = [0u32; 3];
+    let mut lnz = [0u32; 3];
+    let mut dsigns = [0i8; 3];
     let mut iperm = [0u32; 3];
-    say(b"ordering");
-    say_numbers(perm);
-    if order::invperm(perm, &mut iperm) {
-        say(b"  inverse");
-        say_numbers(&iperm);
-    } else {
-        say_refusal(Refusal::InvalidPermutation);
+    let mut next = [0u32; 3];
+    let mut work = [0u32; 3];
+    let signs = [1i8; 3];
+    let empty = Status {
+        phase: Phase::Empty,
+        n: 0,
+        m: 0,
+        nnzl: 0,
+        inertia: 0,
+        shifts: 0,
+    };
+    let answer = empty.analyse(
+        3,
+        3,
+        colptr,
+        rowval,
+        nzval,
+        perm,
+        &signs,
+        &mut pc,
+        &mut pr,
+        &mut pv,
+        &mut map,
+        &mut etree,
+        &mut lnz,
+        &mut dsigns,
+        &mut iperm,
+        &mut next,
+        &mut work,
+    );
+    match answer {
+        Answer::Refused(refusal, _) => {
+            text(b"  ");
+            say::refusal(refusal);
+        }
+        Answer::Done(_) => {
+            text(b"  reordered pointers");
+            numbers(&pc);
+            text(b"  reordered rows");
+            numbers(&pr);
+            text(b"  where each entry went");
+            numbers(&map);
+            text(b"  parents, 4294967295 for none");
+            numbers(&etree);
+            text(b"  rows in each column of L");
+            numbers(&lnz);
+        }
     }
 }
 
 fn main() {
-    say(b"Three pictures share a pool. The matrix by its upper triangle:\n");
     let colptr = [0u32, 1, 3, 5];
     let rowval = [0u32, 0, 1, 0, 2];
-    say_matrix(3, &colptr, &rowval);
-    say(b"  the rows of the last column:");
-    say_numbers(csc::column(&colptr, &rowval, 2));
+    let nzval = [4f64, 1.0, 3.0, 2.0, 5.0];
+    text(b"Three pictures share a pool. The matrix by its upper triangle: pointers");
+    numbers(&colptr);
+    text(b"  the rows of the last column");
+    numbers(csc::column(&colptr, &rowval, 2));
 
-    say(b"The same with a licence that has run out, and so no entry:\n");
-    let short = [0u32, 1, 1, 3];
-    let left = [0u32, 0, 2];
-    say_matrix(3, &short, &left);
-
-    say(b"The order in which the pictures are struck out:\n");
-    let perm = [2u32, 1, 0];
-    say_ordering(&perm);
+    text(b"Strike the pictures out in the order 0 1 2:\n");
+    let rising = [0u32, 1, 2];
+    analyse(&colptr, &rowval, &nzval, &rising);
+    text(b"Strike them out in the order 2 1 0:\n");
+    let falling = [2u32, 1, 0];
+    analyse(&colptr, &rowval, &nzval, &falling);
+    text(b"An order that names a picture twice, 1 1 0:\n");
     let twice = [1u32, 1, 0];
-    say_ordering(&twice);
+    analyse(&colptr, &rowval, &nzval, &twice);
+    text(b"A licence has run out, and its column has no entry:\n");
+    let gone = [0u32, 1, 1, 3];
+    let left = [0u32, 0, 2];
+    let values = [4f64, 2.0, 5.0];
+    analyse(&gone, &left, &values, &rising);
 }

@@ -1,10 +1,10 @@
--- `demo::say_numbers` is safe and ends. The invariant: the loop stands within the list.
+-- `say::numbers` is safe and ends. The invariant: the loop stands within the list.
 -- The measure is how many numbers are left. Assumes nothing.
-use borrow.Author.Needs.{needs}
 use Prim.Native.Nat.{_≤_, _-_}
+use borrow.Author.Needs.{needs}
 use lib.ListN.{length}
-use Rattle.demo.proofs.say_numbers.Statement.{statement}
-use Rattle.demo.proofs.say_numbers.Tie as tie
+use Rattle.say.proofs.numbers.Statement.{statement}
+use Rattle.say.proofs.numbers.Tie as tie
 
 abbrev Inv-loop : tie.InvT-loop
 Inv-loop xs i₀ i = i ≤ length xs
@@ -15,14 +15,14 @@ abbrev μ-loop : tie.MeasureT-loop
 loop-holds : tie.Need-loop-holds Inv-loop μ-loop
 loop-holds c = search needs
 
-mul-say-number : tie.Need-mul-say-number Inv-loop μ-loop
-mul-say-number c = search needs
+mul-number : tie.Need-mul-number Inv-loop μ-loop
+mul-number c = search needs
 
-shared-slice-read-say-number : tie.Need-shared-slice-read-say-number Inv-loop μ-loop
-shared-slice-read-say-number c = search needs
+shared-slice-read-number : tie.Need-shared-slice-read-number Inv-loop μ-loop
+shared-slice-read-number c = search needs
 
-say-number-requires : tie.Need-say-number-requires Inv-loop μ-loop
-say-number-requires c κs = search needs
+number-requires : tie.Need-number-requires Inv-loop μ-loop
+number-requires c κs = search needs
 
 add-i : tie.Need-add-i Inv-loop μ-loop
 add-i c = search needs
@@ -39,16 +39,16 @@ end-line-requires c κs = search needs
 returns : tie.Need-returns Inv-loop μ-loop
 returns c = search needs
 
-pub say-numbers-spec : {M : Type 1} → statement M
-say-numbers-spec =
+pub numbers-spec : {M : Type 1} → statement M
+numbers-spec =
     tie.close
     (tie.spec
     Inv-loop
     μ-loop
     loop-holds
-    mul-say-number
-    shared-slice-read-say-number
-    say-number-requires
+    mul-number
+    shared-slice-read-number
+    number-requires
     add-i
     loop-less
     loop-again
