@@ -8,7 +8,8 @@ use Rattle.order.specs.Order.{isOrdering, placeOf, inverse, permuted}
 use Rattle.reorder.specs.Reorder.{perEntry, inColumn, gathered, starts, places, reordered, mapOf}
 use Rattle.tree.specs.Strike.{entry, joined, later, parents, counts, rowsOfL, pointersOfL}
 use Rattle.qdldl.specs.Calls.{settled}
-use Rattle.qdldl.specs.Analysis.{badLengths, analysisRefusals, analysedTables, analysis}
+use Rattle.analysis.specs.Analysis.{badLengths, analysisRefusals, analysedTables}
+use Rattle.qdldl.specs.Analysing.{analysis}
 use Rattle.qdldl.specs.Figures.{figures}
 
 pub figures-hold : map (λ f. f .given) figures ≡ map (λ f. f .printed) figures

@@ -1,5 +1,3 @@
-pub mod Accepted
 pub mod Figures
-pub mod Lengths
 pub mod Once
-pub mod Tables
+pub mod Settled

@@ -9,7 +9,8 @@ use Rattle.order.specs.Order.{inverse}
 use Rattle.tree.specs.Strike.{none, rowsOfL, pointersOfL}
 use Rattle.qdldl.specs.declared.Phase.the-variants.{Empty}
 use Rattle.qdldl.specs.Calls.{answerNumber, status}
-use Rattle.qdldl.specs.Analysis.{Written, AnalysisLent, analysis, triangle, joins}
+use Rattle.analysis.specs.Analysis.{Written, AnalysisLent, triangle, joins}
+use Rattle.qdldl.specs.Analysing.{analysis}
 
 -- what the definitions give, and what the paper prints
 pub record Figure : Type 0 where

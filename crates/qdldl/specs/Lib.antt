@@ -1,6 +1,5 @@
 pub mod Calls
-pub mod Analysis
-pub mod Steps
+pub mod Analysing
 pub mod Factoring
 pub mod Solving
 pub mod Figures

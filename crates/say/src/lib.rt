@@ -30,14 +30,18 @@ pub fn refusal(refused: Refusal) {
     io::print_decimal(1, desk::number(refused) as u64);
     match refused {
         Refusal::NotReady => text(b", NotReady\n"),
-        Refusal::IncompatibleDimension => text(b", IncompatibleDimension: rows differ from columns\n"),
+        Refusal::IncompatibleDimension => text(
+            b", IncompatibleDimension: rows differ from columns\n",
+        ),
         Refusal::BadSize => text(b", BadSize: too few or too many\n"),
         Refusal::BadLength => text(b", BadLength: a list is not as long as it should be\n"),
         Refusal::MalformedMatrix => text(b", MalformedMatrix: the pointers or a row do not fit\n"),
         Refusal::NotUpperTriangular => text(b", NotUpperTriangular: a row exceeds its column\n"),
         Refusal::EmptyColumn => text(b", EmptyColumn: a column has no entry\n"),
         Refusal::UnsortedColumn => text(b", UnsortedColumn: the rows of a column do not rise\n"),
-        Refusal::InvalidPermutation => text(b", InvalidPermutation: the ordering is not each number once\n"),
+        Refusal::InvalidPermutation => text(
+            b", InvalidPermutation: the ordering is not each number once\n",
+        ),
         Refusal::BadSign => text(b", BadSign: a sign is none of -1, 0, 1\n"),
         Refusal::Spoiled => text(b", Spoiled: a table is not what it should be\n"),
         Refusal::BadIndex => text(b", BadIndex: an index names no entry\n"),

@@ -9,8 +9,9 @@ use lib.Seq.{length-take-le}
 use Rattle.desk.specs.Desk.{first}
 use Rattle.desk.specs.declared.Verdict.the-variants.{Accepted}
 use Rattle.csc.specs.Csc.{matrix}
-use Rattle.qdldl.specs.Analysis.{AnalysisLent, analysisLent, written, analysisRefusals}
-use Rattle.qdldl.proofs.Accepted.{refused, lengths, computable, done}
+use Rattle.analysis.specs.Analysis.{AnalysisLent, analysisLent, written, analysisRefusals}
+use Rattle.analysis.proofs.Accepted.{lengths, computable}
+use Rattle.qdldl.proofs.Settled.{refused, done}
 use Rattle.qdldl.proofs.Status.analyse.Statement.{statement}
 use Rattle.qdldl.proofs.Status.analyse.Tie as tie
 

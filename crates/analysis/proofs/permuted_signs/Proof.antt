@@ -1,4 +1,4 @@
--- `qdldl::permuted_signs` meets its contract: all +1 where no signs came, and the signs through the ordering where they did.
+-- `analysis::permuted_signs` meets its contract: all +1 where no signs came, and the signs through the ordering where they did.
 -- Assumes nothing.
 use Prim.Native.Nat.{ℕ}
 use mathlib.Core.Path.{_≡_, refl, ap, _∙_}
@@ -11,9 +11,9 @@ use lib.IntN.{ℤ, pos}
 use lib.ListN.{length, replicate}
 use Rattle.desk.specs.Lists.{over}
 use Rattle.order.specs.Order.{permuted}
-use Rattle.qdldl.specs.Analysis.{newSigns}
-use Rattle.qdldl.proofs.permuted_signs.Statement.{statement}
-use Rattle.qdldl.proofs.permuted_signs.Tie as tie
+use Rattle.analysis.specs.Analysis.{newSigns}
+use Rattle.analysis.proofs.permuted_signs.Statement.{statement}
+use Rattle.analysis.proofs.permuted_signs.Tie as tie
 
 none : (n : ℕ) (perm : List ℕ) (signs : List ℤ) → length signs ≡ 0 → replicate n (pos 1) ≡ newSigns n perm signs
 none n perm [] e = refl

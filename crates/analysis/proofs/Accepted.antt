@@ -1,6 +1,6 @@
--- What an accepted analysis has, line by line of its refusals; and what it answers. Assumes nothing.
+-- What an accepted analysis has, line by line of its refusals. Assumes nothing.
 use Prim.Native.Nat.{ℕ, _<_, _≤_}
-use mathlib.Core.Path.{_≡_, refl, sym, ap}
+use mathlib.Core.Path.{_≡_, sym}
 use mathlib.Core.Bool.{false, not}
 use mathlib.Core.List.{List, [], _∷_}
 use native.Mathlib.Omega.{arith}
@@ -9,26 +9,16 @@ use lib.IntN.{ℤ}
 use lib.ListN.{length, take}
 use Rattle.desk.specs.Lists.{over}
 use Rattle.desk.specs.Desk.{badSize, first}
-use Rattle.desk.specs.declared.Refusal.{Refusal}
-use Rattle.desk.specs.declared.Verdict.the-variants.{Accepted, Refused}
+use Rattle.desk.specs.declared.Verdict.the-variants.{Accepted}
 use Rattle.desk.proofs.Both.{good-size}
 use Rattle.desk.proofs.First.{none-given}
 use Rattle.desk.proofs.Over.{take-over}
 use Rattle.csc.specs.Csc.{Csc, malformed}
 use Rattle.order.specs.Order.{isOrdering, inverse}
 use Rattle.order.proofs.Orderings.{length-inverse}
-use Rattle.qdldl.specs.declared.Phase.the-variants.{Analysed}
-use Rattle.qdldl.specs.declared.Status.{Status}
-use Rattle.qdldl.specs.declared.Answer.{Answer}
-use Rattle.qdldl.specs.Calls.{Settles, settled, status}
-use Rattle.qdldl.specs.Analysis.{Written, AnalysisLent, analysisLent, badLengths, analysisRefusals, analysedTables, analysis}
-use Rattle.qdldl.specs.Steps.{Computable, Computed}
-use Rattle.qdldl.proofs.Lengths.{Lengths, good-lengths}
-
--- where the verdict is a refusal, the answer is that refusal and nothing has changed
-pub refused : (s : Status) (l : AnalysisLent) (r : Refusal) → Refused r ≡ first (analysisRefusals l) → Settles (analysis s l) (Answer.Refused r s) (l .out)
-unfolding analysis settled
-refused s l r e = rw (← e) (record { reply = refl; lists = refl })
+use Rattle.analysis.specs.Analysis.{Written, AnalysisLent, analysisLent, badLengths, analysisRefusals}
+use Rattle.analysis.specs.Steps.{Computable}
+use Rattle.analysis.proofs.Lengths.{Lengths, good-lengths}
 
 module _ (nrows n : ℕ) (A : Csc) (perm : List ℕ) (signs : List ℤ) (out : Written) (a b c : List ℕ) (ok : Accepted ≡ first (analysisRefusals (analysisLent nrows n A perm signs out (a ∷ b ∷ c ∷ [])))) where
   abbrev l : AnalysisLent
@@ -82,12 +72,3 @@ module _ (nrows n : ℕ) (A : Csc) (perm : List ℕ) (signs : List ℤ) (out : W
         roomNext = rw (m .ordering) (m .roomSecond);
         roomWork = rw (m .ordering) (m .roomThird);
       }
-
-  pub done : (s : Status) (written : Written) (r : ℕ) → Computed A perm signs out written r →
-      Settles (analysis s l) (Answer.Done (status Analysed n (length (A .rowval)) r 0 0)) written
-  unfolding analysis settled analysedTables
-  done s written r k =
-      rw (← ok) (record {
-        reply = ap (λ (v : ℕ). Answer.Done (status Analysed n (length (A .rowval)) v 0 0)) (rw (lengths .ordering) at (k .sum));
-        lists = rw (lengths .ordering) at (k .tables);
-      })

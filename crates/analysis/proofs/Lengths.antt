@@ -9,7 +9,7 @@ use lib.ListN.{length}
 use Rattle.desk.specs.Lists.{any, isnt, short}
 use Rattle.desk.proofs.Both.{neither, not-both, is-long, has-room}
 use Rattle.csc.specs.Csc.{Csc}
-use Rattle.qdldl.specs.Analysis.{Written, analysisLent, badLengths}
+use Rattle.analysis.specs.Analysis.{Written, analysisLent, badLengths}
 
 pub record Lengths (n : ℕ) (A : Csc) (perm : List ℕ) (signs : List ℤ) (out : Written) (a b c : List ℕ) : Type 0 where
   pub pointers : length (A .colptr) ≡ n + 1

@@ -16,8 +16,8 @@ use Rattle.reorder.proofs.Upper.{length-colptr, length-rowval, reordered-steady
 use Rattle.tree.specs.Strike.{parents, counts}
 use Rattle.tree.specs.Tree.{Upper, Treed}
 use Rattle.tree.proofs.Later.{length-counts}
-use Rattle.qdldl.specs.Analysis.{Written, written, newSigns, joins, analysedTables}
-use Rattle.qdldl.specs.Steps.{SignsFit, Computable, Computed}
+use Rattle.analysis.specs.Analysis.{Written, written, newSigns, joins, analysedTables}
+use Rattle.analysis.specs.Steps.{SignsFit, Computable, Computed}
 
 -- the front of a written table, where it is n long
 front : {A : Type 0} (n : ℕ) (y x l : List A) → l ≡ over y x → length y ≡ n → take n l ≡ y

@@ -1,4 +1,4 @@
--- What the private steps of the calls promise. Assumes nothing.
+-- What the steps of the analysis ask and promise. Assumes nothing.
 use Prim.Native.Nat.{ℕ, _+_, _≤_}
 use mathlib.Core.Path.{_≡_}
 use mathlib.Core.Bool.{true, false}
@@ -14,7 +14,7 @@ use Rattle.csc.specs.Csc.{Csc, malformed}
 use Rattle.order.specs.Order.{isOrdering, inverse}
 use Rattle.reorder.specs.Reorder.{reordered}
 use Rattle.tree.specs.Strike.{counts}
-use Rattle.qdldl.specs.Analysis.{Written, AnalysisLent, analysisLent, analysisRefusals, joins, analysedTables}
+use Rattle.analysis.specs.Analysis.{Written, AnalysisLent, analysisLent, analysisRefusals, joins, analysedTables}
 
 -- the verdict of the analysis's refusals, and the inverse ordering where it is accepted
 pub record Judged (l : AnalysisLent) (r : Verdict) (iperm₀ iperm : List ℕ) : Type 0 where

@@ -1,4 +1,4 @@
--- `qdldl::judge` meets its contract: each test that fails passes its line of the refusals over, and the first that holds is given.
+-- `analysis::judge` meets its contract: each test that fails passes its line of the refusals over, and the first that holds is given.
 -- Assumes nothing.
 use Prim.Native.Nat.{ℕ, _≤_}
 use mathlib.Core.Path.{_≡_, sym, ap, _∙_}
@@ -15,11 +15,11 @@ use Rattle.desk.specs.declared.Verdict.the-variants.{Refused}
 use Rattle.desk.proofs.Both.{good-size}
 use Rattle.desk.proofs.First.{passed-over, given, refused-not-accepted}
 use Rattle.csc.specs.Csc.{matrix}
-use Rattle.qdldl.specs.Analysis.{AnalysisLent, analysisLent, written, analysisRefusals, badLengths}
-use Rattle.qdldl.specs.Steps.{Judged}
-use Rattle.qdldl.proofs.Lengths.{Lengths, good-lengths}
-use Rattle.qdldl.proofs.judge.Statement.{statement}
-use Rattle.qdldl.proofs.judge.Tie as tie
+use Rattle.analysis.specs.Analysis.{AnalysisLent, analysisLent, written, analysisRefusals, badLengths}
+use Rattle.analysis.specs.Steps.{Judged}
+use Rattle.analysis.proofs.Lengths.{Lengths, good-lengths}
+use Rattle.analysis.proofs.judge.Statement.{statement}
+use Rattle.analysis.proofs.judge.Tie as tie
 
 -- what was lent
 abbrev L : tie.Start → AnalysisLent

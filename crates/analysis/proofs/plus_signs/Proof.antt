@@ -1,4 +1,4 @@
--- `qdldl::plus_signs` meets its contract. The invariant: the front is +1 as far as the loop has come.
+-- `analysis::plus_signs` meets its contract. The invariant: the front is +1 as far as the loop has come.
 -- The measure is how many places are left. Assumes nothing.
 use Prim.Native.Nat.{_≤_, _-_}
 use mathlib.Core.Path.{_≡_}
@@ -8,8 +8,8 @@ use denote.Ref.{now}
 use lib.IntN.{pos}
 use lib.ListN.{length, replicate}
 use Rattle.desk.proofs.Over.{front, fill-more, fill-size, fill-all}
-use Rattle.qdldl.proofs.plus_signs.Statement.{statement}
-use Rattle.qdldl.proofs.plus_signs.Tie as tie
+use Rattle.analysis.proofs.plus_signs.Statement.{statement}
+use Rattle.analysis.proofs.plus_signs.Tie as tie
 
 abbrev Inv-loop : tie.InvT-loop
 Inv-loop dsigns₀ n i₀ dsigns i = (i ≤ n) × (dsigns ≡ front (replicate n (pos 1)) dsigns₀ i)

@@ -1,20 +1,12 @@
--- `qdldl::compute` meets its contract: each call asks what the laws of the steps give, and the last of them puts the tables together.
+-- `analysis::compute` meets its contract: each call asks what the laws of the steps give, and the last of them puts the tables together.
 -- Assumes nothing.
-use Prim.Native.Nat.{ℕ}
-use mathlib.Core.Path.{_≡_, refl, sym, ap, _∙_}
-use mathlib.Core.List.{List}
+use mathlib.Core.Path.{sym}
 use native.Mathlib.Omega.{arith}
 use borrow.Author.Needs.{needs}
-use denote.Ref.{now}
-use lib.ListN.{length, take}
 use lib.Seq.{length-take-le}
-use Rattle.csc.specs.Csc.{Csc, matrix}
-use Rattle.reorder.specs.Reorder.{Reordered}
-use Rattle.qdldl.specs.Analysis.{Written, written}
-use Rattle.qdldl.specs.Steps.{Computable}
-use Rattle.qdldl.proofs.Tables.{reorderable, signs-fit, upper, counts-part, computed}
-use Rattle.qdldl.proofs.compute.Statement.{statement}
-use Rattle.qdldl.proofs.compute.Tie as tie
+use Rattle.analysis.proofs.Tables.{reorderable, signs-fit, upper, computed}
+use Rattle.analysis.proofs.compute.Statement.{statement}
+use Rattle.analysis.proofs.compute.Tie as tie
 
 abbrev start : tie.After-permute-symmetric-arg5 → tie.Start
 start c = c .before .before .before .before .before .before .before .before .before .before .before .before .before .before .before .before .before .before

@@ -1,9 +1,9 @@
--- `qdldl::bad_lengths` meets its contract: the tests are the definition's, the last of them a call's.
+-- `analysis::bad_lengths` meets its contract: the tests are the definition's, the last of them a call's.
 -- Assumes nothing.
 use borrow.Author.Needs.{needs}
-use Rattle.qdldl.specs.Analysis.{badLengths}
-use Rattle.qdldl.proofs.bad_lengths.Statement.{statement}
-use Rattle.qdldl.proofs.bad_lengths.Tie as tie
+use Rattle.analysis.specs.Analysis.{badLengths}
+use Rattle.analysis.proofs.bad_lengths.Statement.{statement}
+use Rattle.analysis.proofs.bad_lengths.Tie as tie
 
 add-result : tie.Need-add-result
 add-result c = search needs

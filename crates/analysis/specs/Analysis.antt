@@ -1,21 +1,17 @@
--- Document 01: the analysis. Assumes nothing.
+-- Document 01: what the analysis is lent, its refusals, and the tables that it writes. Assumes nothing.
 use Prim.Native.Nat.{ℕ, _+_}
 use mathlib.Core.Bool.{Bool, not, _||_, _&&_}
 use mathlib.Core.List.{List, [], _∷_}
 use lib.Dec.{eqb}
 use lib.IntN.{ℤ, pos}
 use lib.ListN.{length, replicate}
-use Rattle.desk.specs.Lists.{any, isnt, short, over, total}
-use Rattle.desk.specs.Desk.{Line, _⇒_⨾_, first, badSize, badSign}
+use Rattle.desk.specs.Lists.{any, isnt, short, over}
+use Rattle.desk.specs.Desk.{Line, _⇒_⨾_, badSize, badSign}
 use Rattle.desk.specs.declared.Refusal.the-variants.{IncompatibleDimension, BadSize, BadLength, MalformedMatrix, NotUpperTriangular, EmptyColumn, UnsortedColumn, InvalidPermutation, BadSign}
 use Rattle.csc.specs.Csc.{Csc, malformed, notUpper, emptyColumn, unsortedColumn}
 use Rattle.order.specs.Order.{isOrdering, inverse, permuted}
 use Rattle.reorder.specs.Reorder.{reordered, mapOf}
 use Rattle.tree.specs.Strike.{entry, parents, counts}
-use Rattle.qdldl.specs.declared.Phase.the-variants.{Analysed}
-use Rattle.qdldl.specs.declared.Status.{Status}
-use Rattle.qdldl.specs.declared.Answer.{Answer}
-use Rattle.qdldl.specs.Calls.{Outcome, outcome, settled, status}
 
 -- "Analysis writes the permuted pointers, rows and values, the map, parents, counts, and the signs in the new order"
 pub record Written : Type 0 where
@@ -96,9 +92,3 @@ analysedTables l =
       lnz = over (counts (l .n) (joins P)) (l .out .lnz);
       dsigns = over (newSigns (l .n) (l .perm) (l .signs)) (l .out .dsigns);
     }
-
--- "Analysis may be called from any status; it sets the length of L to the counts' sum, inertia and shifts to 0."
-unfoldable pub analysis : Status → AnalysisLent → Outcome Written
-analysis s l =
-    settled (first (analysisRefusals l)) s (l .out)
-    (outcome (Answer.Done (status Analysed (l .n) (entriesOf l) (total (counts (l .n) (joins (triangle l)))) 0 0)) (analysedTables l))
