@@ -1,6 +1,6 @@
 -- `pivot::regularised` meets its contract: off, or on and below eps or not, each is a case of the definition.
 -- Assumes nothing.
-use mathlib.Core.Path.{_≡_, refl, sym, ap, _∙_}
+use mathlib.Core.Path.{_≡_, ap, _∙_}
 use mathlib.Core.Bool.{true, false}
 use borrow.Author.Needs.{needs}
 use lib.IntN.{ℤ}
