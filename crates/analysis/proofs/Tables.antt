@@ -11,7 +11,8 @@ use Rattle.desk.proofs.Over.{take-over}
 use Rattle.csc.specs.Csc.{Csc}
 use Rattle.order.specs.Order.{inverse}
 use Rattle.order.proofs.Orderings.{length-inverse, getD-inverse, place-below}
-use Rattle.reorder.specs.Reorder.{Reorderable, Reordered, reordered, mapOf}
+use Rattle.reorder.specs.Reorder.{reordered, mapOf}
+use Rattle.reorder.specs.Kernels.{Reorderable, Reordered}
 use Rattle.reorder.proofs.Upper.{length-colptr, length-rowval, reordered-steady, reordered-upper}
 use Rattle.tree.specs.Strike.{parents, counts}
 use Rattle.tree.specs.Tree.{Upper, Treed}

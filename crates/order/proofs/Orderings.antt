@@ -15,7 +15,8 @@ use Rattle.desk.proofs.Both.{is-false}
 use Rattle.desk.proofs.Upto.{getD-upto, length-upto, all-upto, each-upto}
 use Rattle.desk.proofs.Tally.{tally-none, tally-here, tally-past, tally-split, tally-suc, below, below-all, below-missing, below-once, each-once}
 use Rattle.desk.proofs.Over.{front, front-more, front-length, front-all, getD-over}
-use Rattle.order.specs.Order.{Fitting, isOrdering, placeOf, inverse, permuted, ipermuted}
+use Rattle.order.specs.Order.{isOrdering, placeOf, inverse, permuted, ipermuted}
+use Rattle.order.specs.Kernels.{Fitting}
 
 -- ---- what an ordering is
 

@@ -1,11 +1,10 @@
 -- Document 01, pieces 1 and 2: an ordering, its inverse, and the two permutations. Assumes nothing.
-use Prim.Native.Nat.{ℕ, suc, _≤_}
-use mathlib.Core.Path.{_≡_}
-use mathlib.Core.Bool.{Bool, true, cond}
+use Prim.Native.Nat.{ℕ, suc}
+use mathlib.Core.Bool.{Bool, cond}
 use mathlib.Core.List.{List, [], _∷_, map}
 use lib.Dec.{eqb}
 use lib.ListN.{length, getD}
-use Rattle.desk.specs.Lists.{upto, all, tally, over}
+use Rattle.desk.specs.Lists.{upto, all, tally}
 
 -- "perm[new] = old"; 9 where the "ordering isn't each of 0..n-1 once"
 unfoldable pub isOrdering : List ℕ → Bool
@@ -27,14 +26,3 @@ permuted d p b = map (λ i. getD b i d) p
 -- ", and back"
 unfoldable pub ipermuted : {A : Type 0} → A → List ℕ → List A → List A
 ipermuted d p b = permuted d (inverse p) b
-
--- the answer of `invperm`: whether perm is an ordering, and then its inverse at the front of iperm
-pub record Inverted (perm iperm₀ iperm : List ℕ) (r : Bool) : Type 0 where
-  pub answer : r ≡ isOrdering perm
-  pub inverted : r ≡ true → iperm ≡ over (inverse perm) iperm₀
-
--- what the permutations ask: an ordering, and two lists at least as long
-pub record Fitting {A : Type 0} (p : List ℕ) (b x : List A) : Type 0 where
-  pub ordering : isOrdering p ≡ true
-  pub reads : length p ≤ length b
-  pub writes : length p ≤ length x

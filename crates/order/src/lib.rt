@@ -5,7 +5,8 @@ ghost use lib.IntN.{pos};
 ghost use lib.Ieee.{nan};
 ghost use lib.ListN.{length};
 ghost use Rattle.desk.specs.Lists.{over};
-ghost use Rattle.order.specs.Order.{Inverted, Fitting, permuted, ipermuted};
+ghost use Rattle.order.specs.Order.{permuted, ipermuted};
+ghost use Rattle.order.specs.Kernels.{Inverted, Fitting};
 use desk::fill;
 use desk::wide;
 

@@ -10,7 +10,8 @@ use lib.Seq.{getD-take, length-take-le}
 use Rattle.desk.specs.Lists.{sums, over}
 use Rattle.desk.proofs.Tally.{below, below-suc, below-le}
 use Rattle.csc.specs.Csc.{Csc}
-use Rattle.reorder.specs.Reorder.{newCol, newRow, newCols, newRows, starts, places, reordered, mapOf, Reorderable, Reordered}
+use Rattle.reorder.specs.Reorder.{newCol, newRow, newCols, newRows, starts, places, reordered, mapOf}
+use Rattle.reorder.specs.Kernels.{Reorderable, Reordered}
 use Rattle.reorder.specs.Steps.{advanced, widest, roomOf, EntriesReady, Filled}
 use Rattle.reorder.proofs.Formed.{Formed, formed, length-entries, each-entry}
 use Rattle.reorder.proofs.Gather.{Each, fills, places-same}

@@ -17,7 +17,8 @@ use Rattle.desk.proofs.Any.{from-none}
 use Rattle.desk.proofs.Tally.{below, below-zero, below-suc, below-all}
 use Rattle.csc.specs.Csc.{Csc, column, fall, badPointers, notUpper}
 use Rattle.csc.proofs.Columns.{column-part}
-use Rattle.reorder.specs.Reorder.{Reorderable, newCol, newRow, newCols, newRows, perEntry, inColumn, gathered, starts, reordered, mapOf}
+use Rattle.reorder.specs.Reorder.{newCol, newRow, newCols, newRows, perEntry, inColumn, gathered, starts, reordered, mapOf}
+use Rattle.reorder.specs.Kernels.{Reorderable}
 use Rattle.reorder.proofs.Formed.{Formed, formed, length-entries, each-entry}
 use Rattle.reorder.proofs.Gather.{Each, length-inColumn, below-mono}
 use Rattle.reorder.proofs.Starts.{sums-first, length-starts, starts-at}

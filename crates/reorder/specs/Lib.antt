@@ -1,2 +1,3 @@
 pub mod Reorder
+pub mod Kernels
 pub mod Steps

@@ -1,12 +1,11 @@
 -- Document 01, piece 3: the reordered triangle and its map. Assumes nothing.
-use Prim.Native.Nat.{ℕ, _+_, _^_, _<_, _≤_, min, max}
-use mathlib.Core.Path.{_≡_}
-use mathlib.Core.Bool.{false, cond}
+use Prim.Native.Nat.{ℕ, _+_, min, max}
+use mathlib.Core.Bool.{cond}
 use mathlib.Core.List.{List, [], _∷_, map}
 use lib.Dec.{eqb}
-use lib.ListN.{length, getD, set}
-use Rattle.desk.specs.Lists.{upto, joinAll, tally, sums, over}
-use Rattle.csc.specs.Csc.{Csc, column, malformed}
+use lib.ListN.{getD, set}
+use Rattle.desk.specs.Lists.{upto, joinAll, tally, sums}
+use Rattle.csc.specs.Csc.{Csc, column}
 
 -- "entry (r, c) goes to column max(iperm[r], iperm[c]), row the minimum"
 abbrev pub newCol : List ℕ → ℕ → ℕ → ℕ
@@ -58,23 +57,3 @@ reordered n iperm A =
 -- its map
 unfoldable pub mapOf : ℕ → List ℕ → Csc → List ℕ
 mapOf n iperm A = let ks = newCols n iperm (A .colptr) (A .rowval) in places (starts n ks) ks
-
--- what `permute_symmetric` asks: a matrix that is not malformed, an inverse ordering, and room
-pub record Reorderable (iperm : List ℕ) (A P : Csc) (map next : List ℕ) : Type 0 where
-  pub formed : malformed (length iperm) (A .colptr) (A .rowval) ≡ false
-  pub pointers : length (A .colptr) ≡ length iperm + 1
-  pub values : length (A .nzval) ≡ length (A .rowval)
-  pub small : length (A .rowval) < 2 ^ 32
-  pub inverse : (k : ℕ) → k < length iperm → getD iperm k 0 < length iperm
-  pub roomPointers : length iperm + 1 ≤ length (P .colptr)
-  pub roomRows : length (A .rowval) ≤ length (P .rowval)
-  pub roomValues : length (A .rowval) ≤ length (P .nzval)
-  pub roomMap : length (A .rowval) ≤ length map
-  pub roomNext : length iperm ≤ length next
-
--- what it leaves: the reordered triangle and its map over the tables lent
-pub record Reordered (iperm : List ℕ) (A P₀ P : Csc) (map₀ map : List ℕ) : Type 0 where
-  pub colptr : P .colptr ≡ over (reordered (length iperm) iperm A .colptr) (P₀ .colptr)
-  pub rowval : P .rowval ≡ over (reordered (length iperm) iperm A .rowval) (P₀ .rowval)
-  pub nzval : P .nzval ≡ over (reordered (length iperm) iperm A .nzval) (P₀ .nzval)
-  pub places : map ≡ over (mapOf (length iperm) iperm A) map₀
