@@ -39,7 +39,7 @@ shared-slice-read-vals : tie.Need-shared-slice-read-vals Inv-loop μ-loop
 shared-slice-read-vals c = omega (arith, start (c .before .before .before) .pre .1)
 
 mul-vals-2 : tie.Need-mul-vals-2 Inv-loop μ-loop
-mul-vals-2 c = omega (arith, inside (c .before), start (c .before .before .before) .good .1 .1 .1 .0 .1)
+mul-vals-2 c = omega (arith, mul-vals (c .before), inside (c .before), start (c .before .before .before) .good .1 .1 .1 .0 .1)
 
 slice-write-vals : tie.Need-slice-write-vals Inv-loop μ-loop
 slice-write-vals c = omega (arith, inside (c .before))
