@@ -119,6 +119,7 @@ pub fn analyse(
 
 /// Says what was left out because the archive is not there; past the capture of a test's output, so that it is seen.
 pub fn skip(count: usize, what: &str) {
-    let line = format!("skipped: {count} {what}, since `rt staticlib face` has not written target/staticlib/libface.a\n");
+    let line =
+        format!("skipped: {count} {what}, since `rt staticlib face` has not written target/staticlib/libface.a\n");
     std::io::stderr().write_all(line.as_bytes()).unwrap();
 }
