@@ -1,7 +1,9 @@
-//! Passes on whether the oracle crate found the original.
+//! Passes on whether the oracle crate found the original, and the coinravel crate its archive.
 fn main() {
-    println!("cargo::rustc-check-cfg=cfg(qdldl)");
-    if std::env::var_os("DEP_QDLDL_PRESENT").is_some() {
-        println!("cargo::rustc-cfg=qdldl");
+    for (cfg, found) in [("qdldl", "DEP_QDLDL_PRESENT"), ("archive", "DEP_FACE_PRESENT")] {
+        println!("cargo::rustc-check-cfg=cfg({cfg})");
+        if std::env::var_os(found).is_some() {
+            println!("cargo::rustc-cfg={cfg}");
+        }
     }
 }

@@ -1,15 +1,21 @@
-//! `vectors` prints the fixed list of cases with the original's answers.
+//! `vectors` prints the fixed list of cases with the original's answers; `differential` runs the archive against both readings.
 use harness::list;
 
 fn main() {
-    match std::env::args().nth(1).as_deref() {
-        Some("vectors") => vectors(),
+    let words: Vec<String> = std::env::args().skip(1).collect();
+    let words: Vec<&str> = words.iter().map(String::as_str).collect();
+    match words[..] {
+        ["vectors"] => vectors(),
+        ["differential", "--seed", seed, "--cases", cases] => match (seed.parse(), cases.parse()) {
+            (Ok(seed), Ok(cases)) => differential(seed, cases),
+            _ => usage(),
+        },
         _ => usage(),
     }
 }
 
 fn usage() {
-    eprintln!("usage: cargo run --release --offline -- vectors > vectors.txt");
+    eprintln!("usage: cargo run --release --offline -- vectors | differential --seed S --cases N");
     std::process::exit(2);
 }
 
@@ -21,5 +27,19 @@ fn vectors() {
 #[cfg(not(qdldl))]
 fn vectors() {
     harness::skip(list::cases().len(), "vectors");
+    std::process::exit(1);
+}
+
+#[cfg(all(archive, qdldl))]
+fn differential(seed: u64, cases: usize) {
+    let count = harness::differential::run(seed, cases);
+    println!("numbers 0 to 10: {:?}", count.numbers);
+    println!("{cases} compared, {} differ", count.differ);
+    std::process::exit(i32::from(count.differ > 0));
+}
+
+#[cfg(not(all(archive, qdldl)))]
+fn differential(_seed: u64, cases: usize) {
+    harness::skip_either(cases, "cases");
     std::process::exit(1);
 }

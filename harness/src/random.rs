@@ -97,3 +97,25 @@ pub fn case(rng: &mut Rng, n: usize) -> Case {
     case.refactor = rng.once_in(2);
     case
 }
+
+/// Order n with m entries: the diagonals, and as many more in each column, at rows near it or anywhere above.
+pub fn spread(rng: &mut Rng, n: usize, m: usize, near: bool) -> Case {
+    let mut rows: Vec<Vec<u32>> = (0..n as u32).map(|c| vec![c]).collect();
+    let (mut left, mut c) = (m - n, 0);
+    while left > 0 {
+        c = if c == 0 { n - 1 } else { c - 1 };
+        let above: Vec<u32> = (0..c as u32).filter(|r| !rows[c].contains(r)).collect();
+        if !above.is_empty() {
+            rows[c].push(if near { above[above.len() - 1] } else { rng.pick(&above) });
+            left -= 1;
+        }
+    }
+    let mut colptr = vec![0];
+    for column in &mut rows {
+        column.sort_unstable();
+        colptr.push(colptr[colptr.len() - 1] + column.len() as u32);
+    }
+    let rowval = rows.concat();
+    let nzval: Vec<f64> = rowval.iter().map(|_| rng.real()).collect();
+    Case::new(&colptr, &rowval, &nzval)
+}

@@ -11,9 +11,18 @@ fn whole<T: Display>(keyword: &str, numbers: &[T]) -> String {
     line + "\n"
 }
 
+/// The bits, with one NaN for all.
+pub fn canonical(x: f64) -> u64 {
+    if x.is_nan() {
+        0x7ff8_0000_0000_0000
+    } else {
+        x.to_bits()
+    }
+}
+
 /// One line of f64 by their bits, any NaN as the same one.
 fn bits(keyword: &str, numbers: &[f64]) -> String {
-    let hex = |x: &f64| format!("{:016x}", if x.is_nan() { 0x7ff8_0000_0000_0000 } else { x.to_bits() });
+    let hex = |x: &f64| format!("{:016x}", canonical(*x));
     whole(keyword, &numbers.iter().map(hex).collect::<Vec<_>>())
 }
 

@@ -1,0 +1,16 @@
+//! Links the proved archive; without it the crate still builds, and its cfg says so.
+use std::{env, path::Path};
+
+fn main() {
+    let here = env::var("CARGO_MANIFEST_DIR").unwrap();
+    let folder = Path::new(&here).join("../../target/staticlib");
+    let archive = folder.join("libface.a");
+    println!("cargo::rustc-check-cfg=cfg(archive)");
+    println!("cargo::rerun-if-changed={}", archive.display());
+    if archive.exists() {
+        println!("cargo::rustc-cfg=archive");
+        println!("cargo::metadata=present=yes");
+        println!("cargo::rustc-link-search=native={}", folder.display());
+        println!("cargo::rustc-link-lib=static=face");
+    }
+}
