@@ -23,9 +23,8 @@ impl Reply {
     }
 }
 
-/// The call, from any words of a status and with full scratch.
-pub fn analyse(lent: &ToAnalysis, words: &[u64]) -> Reply {
-    let (mut words, mut value, mut out) = (words.to_vec(), u64::from(WORD), lent.out.clone());
+/// The call in place.
+pub fn call(lent: &mut ToAnalysis, words: &mut [u64], value: &mut u64, scratch: &mut [Vec<u32>; 3]) -> u32 {
     let A = Matrix {
         rows: lent.A.rows,
         columns: lent.A.columns,
@@ -33,17 +32,27 @@ pub fn analyse(lent: &ToAnalysis, words: &[u64]) -> Reply {
         rowval: &lent.A.rowval,
         nzval: &lent.A.nzval,
     };
-    let tables = Tables {
-        Ap: &mut out.A.Ap,
-        Ai: &mut out.A.Ai,
-        Ax: &mut out.A.Ax,
-        AtoPAPt: &mut out.AtoPAPt,
-        etree: &mut out.A.etree,
-        Lnz: &mut out.A.Lnz,
-        Dsigns: &mut out.A.Dsigns,
+    let out = Tables {
+        Ap: &mut lent.out.A.Ap,
+        Ai: &mut lent.out.A.Ai,
+        Ax: &mut lent.out.A.Ax,
+        AtoPAPt: &mut lent.out.AtoPAPt,
+        etree: &mut lent.out.A.etree,
+        Lnz: &mut lent.out.A.Lnz,
+        Dsigns: &mut lent.out.A.Dsigns,
     };
-    let mut scratch = lent.scratch.words.map(|len| vec![WORD; len]);
-    let [iperm, next, work] = &mut scratch;
-    let number = coinravel::analyse(&mut words, &mut value, A, &lent.perm, &lent.Dsigns, tables, [iperm, next, work]);
-    Reply { number, value, words, out }
+    let [iperm, next, work] = scratch;
+    coinravel::analyse(words, value, A, &lent.perm, &lent.Dsigns, out, [iperm, next, work])
+}
+
+/// Scratch that holds anything.
+pub fn scratch(lent: &ToAnalysis) -> [Vec<u32>; 3] {
+    lent.scratch.words.map(|len| vec![WORD; len])
+}
+
+/// The call on a copy, from any words of a status.
+pub fn analyse(lent: &ToAnalysis, words: &[u64]) -> Reply {
+    let (mut after, mut words, mut value) = (lent.clone(), words.to_vec(), u64::from(WORD));
+    let number = call(&mut after, &mut words, &mut value, &mut scratch(lent));
+    Reply { number, value, words, out: after.out }
 }

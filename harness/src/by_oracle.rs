@@ -11,8 +11,8 @@ fn narrow(table: &[usize]) -> Vec<u32> {
     table.iter().map(|&x| if x == usize::MAX { u32::MAX } else { u32::try_from(x).unwrap() }).collect()
 }
 
-/// `new` of the original for this case.
-pub fn new(case: &Case) -> Result<QDLDLFactorisation, QDLDLError> {
+/// What `new` of the original takes for this case.
+pub fn lent(case: &Case) -> (CscMatrix, QDLDLSettings<f64>) {
     let n = case.n();
     let A = CscMatrix { m: n, n, colptr: wide(&case.colptr), rowval: wide(&case.rowval), nzval: case.nzval.clone() };
     let mut opts = QDLDLSettings {
@@ -27,6 +27,12 @@ pub fn new(case: &Case) -> Result<QDLDLFactorisation, QDLDLError> {
         opts.regularize_eps = eps;
         opts.regularize_delta = delta;
     }
+    (A, opts)
+}
+
+/// `new` of the original for this case.
+pub fn new(case: &Case) -> Result<QDLDLFactorisation, QDLDLError> {
+    let (A, opts) = lent(case);
     QDLDLFactorisation::new(&A, Some(opts))
 }
 

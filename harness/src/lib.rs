@@ -11,6 +11,8 @@ pub mod random;
 pub mod rng;
 pub mod text;
 
+#[cfg(all(archive, qdldl))]
+pub mod benchmark;
 #[cfg(archive)]
 pub mod by_face;
 #[cfg(qdldl)]

@@ -1,4 +1,5 @@
-//! `vectors` prints the fixed list of cases with the original's answers; `differential` runs the archive against both readings.
+//! `vectors` prints the fixed list of cases with the original's answers, `differential` runs the archive against both readings,
+//! and `benchmark` times it against the original.
 use harness::list;
 
 fn main() {
@@ -10,12 +11,13 @@ fn main() {
             (Ok(seed), Ok(cases)) => differential(seed, cases),
             _ => usage(),
         },
+        ["benchmark"] => benchmark(),
         _ => usage(),
     }
 }
 
 fn usage() {
-    eprintln!("usage: cargo run --release --offline -- vectors | differential --seed S --cases N");
+    eprintln!("usage: cargo run --release --offline -- vectors | differential --seed S --cases N | benchmark");
     std::process::exit(2);
 }
 
@@ -41,5 +43,16 @@ fn differential(seed: u64, cases: usize) {
 #[cfg(not(all(archive, qdldl)))]
 fn differential(_seed: u64, cases: usize) {
     harness::skip_either(cases, "cases");
+    std::process::exit(1);
+}
+
+#[cfg(all(archive, qdldl))]
+fn benchmark() {
+    harness::benchmark::run();
+}
+
+#[cfg(not(all(archive, qdldl)))]
+fn benchmark() {
+    harness::skip_either(9, "timings");
     std::process::exit(1);
 }

@@ -1,12 +1,12 @@
 // The C face of the calls; include/coinravel.h says the same in C.
-ghost use mathlib.Core.List.{[], _∷_};
-ghost use Rattle.csc.specs.Csc.{matrix};
-ghost use Rattle.analysis.specs.Analysis.{written, analysisLent};
-ghost use mathlib.Core.Path.{_≡_};
 ghost use Prim.Native.Nat.{_≤_};
+ghost use mathlib.Core.Path.{_≡_};
+ghost use mathlib.Core.List.{[], _∷_};
 ghost use lib.ListN.{length, getD};
 ghost use Rattle.desk.specs.Desk.{valuesOf};
 ghost use Rattle.desk.specs.Lists.{over};
+ghost use Rattle.csc.specs.Csc.{matrix};
+ghost use Rattle.analysis.specs.Analysis.{written, analysisLent};
 ghost use Rattle.face.specs.Face.{wordOf, phaseOf, statusOf, wordsOf, Faces, faced};
 use desk::Refusal;
 use qdldl::Answer;
