@@ -1,4 +1,4 @@
-//! Links the proved archive; without it the crate still builds, and its cfg says so.
+//! Links the proved archive; without it, or for another machine than x86-64, the crate still builds, and its cfg says so.
 use std::{env, path::Path};
 
 fn main() {
@@ -7,7 +7,7 @@ fn main() {
     let archive = folder.join("libface.a");
     println!("cargo::rustc-check-cfg=cfg(archive)");
     println!("cargo::rerun-if-changed={}", archive.display());
-    if archive.exists() {
+    if archive.exists() && env::var("CARGO_CFG_TARGET_ARCH").unwrap() == "x86_64" {
         println!("cargo::rustc-cfg=archive");
         println!("cargo::metadata=present=yes");
         println!("cargo::rustc-link-search=native={}", folder.display());

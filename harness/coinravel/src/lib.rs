@@ -1,7 +1,7 @@
 //! The proved analysis, safely: include/coinravel.h over slices, with the names of the original.
 //!
-//! The archive is target/staticlib/libface.a, which `rt staticlib face` writes; where it is absent the crate has its types
-//! and no call.
+//! The archive is target/staticlib/libface.a, which `rt staticlib face` writes for x86-64; where it is absent, and on another
+//! machine, the crate has its types and no call.
 #![allow(non_snake_case)]
 
 #[cfg(archive)]
@@ -117,9 +117,9 @@ pub fn analyse(
     face::analyse(status, value, A, perm, Dsigns, out, scratch)
 }
 
-/// Says what was left out because the archive is not there; past the capture of a test's output, so that it is seen.
+/// Says what was left out because the archive is not there or not for this machine; past the capture of a test's output, so that it is seen.
 pub fn skip(count: usize, what: &str) {
     let line =
-        format!("skipped: {count} {what}, since `rt staticlib face` has not written target/staticlib/libface.a\n");
+        format!("skipped: {count} {what}, since target/staticlib/libface.a is not there, or this is not x86-64\n");
     std::io::stderr().write_all(line.as_bytes()).unwrap();
 }
