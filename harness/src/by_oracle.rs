@@ -2,12 +2,13 @@
 use crate::case::{Answer, Case, Edit, Settings};
 use oracle::{algebra::CscMatrix, qdldl::*, Private};
 
-fn wide(table: &[u32]) -> Vec<usize> {
+/// To usize.
+pub fn wide(table: &[u32]) -> Vec<usize> {
     table.iter().map(|&x| x as usize).collect()
 }
 
 /// To u32, and `usize::MAX` to 4294967295.
-fn narrow(table: &[usize]) -> Vec<u32> {
+pub fn narrow(table: &[usize]) -> Vec<u32> {
     table.iter().map(|&x| if x == usize::MAX { u32::MAX } else { u32::try_from(x).unwrap() }).collect()
 }
 

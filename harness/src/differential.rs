@@ -1,27 +1,32 @@
-//! The archive's analysis against the original where it is accepted, and against document 01's reading where it is damaged.
+//! The archives against the original where it accepts, and against document 01's reading where something is damaged.
 use crate::{
     by_face::{analyse, Reply},
-    by_oracle,
+    by_kernels, by_oracle,
     by_plain::{FLOAT, SIGN, WORD},
     case::Case,
     faults::{to_analysis, ToAnalysis, ANALYSIS},
     random,
     rng::Rng,
+    text::canonical,
 };
 use coinravel::STATUS_WORDS;
-use plain::{MAX_M, MAX_N};
+use kernels::Columns;
+use plain::{refusal::L_is_spoiled, Factors, MAX_M, MAX_N};
 
 const LARGE: usize = 4;
 const ORDER: usize = 40;
 
-/// How many differ, and how many there were of each number.
+/// How many differ, how many analyses gave each number, how many values were edited, solves run and damaged L spoiled.
 #[derive(Default)]
 pub struct Count {
     pub differ: usize,
     pub numbers: [usize; 11],
+    pub edited: usize,
+    pub solved: usize,
+    pub spoiled: usize,
 }
 
-/// Two faults at once, then a few of the greatest size, then random ones.
+/// Analyses with two faults at once, then a few of the greatest size, then random ones and the kernels.
 pub fn run(seed: u64, cases: usize) -> Count {
     let (mut rng, mut count) = (Rng(seed), Count::default());
     let pairs = ANALYSIS.len() * ANALYSIS.len();
@@ -34,9 +39,10 @@ pub fn run(seed: u64, cases: usize) -> Count {
         } else {
             let n = 1 + rng.below(ORDER);
             let case = random::case(&mut rng, n);
-            match rng.below(2) {
+            match rng.below(3) {
                 0 => accepted(&mut rng, &mut count, &case),
-                _ => damaged(&mut rng, &mut count, &case),
+                1 => damaged(&mut rng, &mut count, &case),
+                _ => by_parts(&mut rng, &mut count, case),
             }
         }
     }
@@ -168,5 +174,52 @@ fn change<T>(rng: &mut Rng, table: &mut [T], to: impl Fn(&mut Rng) -> T) {
     if !table.is_empty() {
         let place = rng.below(table.len());
         table[place] = to(rng);
+    }
+}
+
+/// The edits and the solve on the original's factor, logical where the numeric one stops at a zero pivot; then its L damaged.
+fn by_parts(rng: &mut Rng, count: &mut Count, mut case: Case) {
+    let theirs = by_oracle::answer(&case).unwrap_or_else(|_| {
+        case.logical = true;
+        by_oracle::answer(&case).unwrap()
+    });
+    count.edited += case.edits.iter().map(|edit| edit.indices().len()).sum::<usize>();
+    let mut agree = same(&by_kernels::edited(&case, &theirs.AtoPAPt), &theirs.Ax);
+
+    let L = Columns { Lp: &theirs.Lp, Li: &theirs.Li, Lx: &theirs.Lx };
+    if !theirs.x.is_empty() {
+        count.solved += 1;
+        agree &= same(&by_kernels::solved(&case.perm, L, &theirs.Dinv, &case.b), &theirs.x);
+    }
+
+    let mut F = Factors { Lp: theirs.Lp, Li: theirs.Li, Lx: theirs.Lx, D: theirs.D, Dinv: theirs.Dinv };
+    damage_L(rng, &mut F);
+    let L = Columns { Lp: &F.Lp, Li: &F.Li, Lx: &F.Lx };
+    let spoiled = L_is_spoiled(&F, case.n());
+    count.spoiled += usize::from(spoiled);
+    agree &= kernels::spoiled(case.n(), L) == spoiled;
+    if agree && !spoiled {
+        let mut x = case.b.clone();
+        plain::solve::solve(&case.perm, &F.Lp, &F.Li, &F.Lx, &F.Dinv, &mut x);
+        agree &= same(&by_kernels::solved(&case.perm, L, &F.Dinv, &case.b), &x);
+    }
+    if !agree {
+        count.differ += 1;
+        eprintln!("differs: {case:?} {F:?}");
+    }
+}
+
+/// Bit for bit, with any NaN for a NaN.
+fn same(a: &[f64], b: &[f64]) -> bool {
+    a.len() == b.len() && a.iter().zip(b).all(|(&a, &b)| canonical(a) == canonical(b))
+}
+
+fn damage_L(rng: &mut Rng, F: &mut Factors) {
+    let (n, nnzL) = (F.Lp.len() - 1, F.Li.len());
+    match rng.below(5) {
+        0 => stretch(rng, &mut F.Li),
+        1 => stretch(rng, &mut F.Lx),
+        2 => change(rng, &mut F.Lp, |rng| rng.below(nnzL + 2) as u32),
+        _ => change(rng, &mut F.Li, |rng| rng.below(n + 1) as u32),
     }
 }

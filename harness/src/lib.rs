@@ -15,6 +15,8 @@ pub mod text;
 pub mod benchmark;
 #[cfg(archive)]
 pub mod by_face;
+#[cfg(archive)]
+pub mod by_kernels;
 #[cfg(qdldl)]
 pub mod by_oracle;
 #[cfg(all(archive, qdldl))]

@@ -1,5 +1,5 @@
-//! `vectors` prints the fixed list of cases with the original's answers, `differential` runs the archive against both readings,
-//! and `benchmark` times it against the original.
+//! `vectors` prints the fixed list of cases with the original's answers, `differential` runs the archives against both readings,
+//! and `benchmark` times them against the original.
 use harness::list;
 
 fn main() {
@@ -35,7 +35,8 @@ fn vectors() {
 #[cfg(all(archive, qdldl))]
 fn differential(seed: u64, cases: usize) {
     let count = harness::differential::run(seed, cases);
-    println!("numbers 0 to 10: {:?}", count.numbers);
+    println!("analyses by their numbers 0 to 10: {:?}", count.numbers);
+    println!("values edited: {}, solves: {}, spoiled L: {}", count.edited, count.solved, count.spoiled);
     println!("{cases} compared, {} differ", count.differ);
     std::process::exit(i32::from(count.differ > 0));
 }

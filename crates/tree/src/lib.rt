@@ -17,9 +17,9 @@ fn visit(i: usize, j: u32, work: &mut [u32], lnz: &mut [u32], etree: &mut [u32])
     requires { ⌜ Visitable i (now work) (now lnz) (now etree) ⌝ }
     ensures { λ r. ⌜ Visited i j (now (work .entry)) (now (work .exit)) (now (lnz .entry)) (now (lnz .exit)) (now (etree .entry)) (now (etree .exit)) r ⌝ }
 {
+    let parent = etree[i];
     work[i] = j;
     lnz[i] += 1;
-    let parent = etree[i];
     if parent == NONE {
         etree[i] = j;
         return wide(j);

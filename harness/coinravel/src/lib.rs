@@ -117,9 +117,9 @@ pub fn analyse(
     face::analyse(status, value, A, perm, Dsigns, out, scratch)
 }
 
-/// Says what was left out because the archive is not there or not for this machine; past the capture of a test's output, so that it is seen.
+/// Says what was left out because an archive is not there or not for this machine; past the capture of a test's output, so that it is seen.
 pub fn skip(count: usize, what: &str) {
     let line =
-        format!("skipped: {count} {what}, since target/staticlib/libface.a is not there, or this is not x86-64\n");
+        format!("skipped: {count} {what}, since an archive of target/staticlib is not there, or this is not x86-64\n");
     std::io::stderr().write_all(line.as_bytes()).unwrap();
 }

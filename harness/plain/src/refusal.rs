@@ -123,7 +123,7 @@ pub fn solve(status: &Status, perm: &[u32], F: &Factors, b: &[f64], scratch: &Sc
 }
 
 /// "L's pointers don't start at 0, fall, or end past its rows or values; or a row of column i isn't in i+1..n-1."
-fn L_is_spoiled(F: &Factors, n: usize) -> bool {
+pub fn L_is_spoiled(F: &Factors, n: usize) -> bool {
     let end = F.Lp[n] as usize;
     !pointers_hold(&F.Lp, end)
         || end > F.Li.len()

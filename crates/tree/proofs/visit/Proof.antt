@@ -19,6 +19,12 @@ module _ (i j : ℕ) (w l e : List ℕ) {r : ℕ} where
   visited-some : (getD e i 0 ≡ none → ⊥) → r ≡ getD e i 0 → Visited i j w (set w i j) l (set l i (getD l i 0 + 1)) e e r
   visited-some h q = record { answer = rw (ne-eqb (getD e i 0) none h) q; marked = refl; counted = refl; parented = rw q (sym (set-getD e i 0)) }
 
+mul-parent : tie.Need-mul-parent
+mul-parent c = search needs
+
+slice-read-parent : tie.Need-slice-read-parent
+slice-read-parent c = search needs
+
 mul-work : tie.Need-mul-work
 mul-work c = search needs
 
@@ -36,12 +42,6 @@ add-lnz c = search needs
 
 slice-write-lnz : tie.Need-slice-write-lnz
 slice-write-lnz c = search needs
-
-mul-parent : tie.Need-mul-parent
-mul-parent c = search needs
-
-slice-read-parent : tie.Need-slice-read-parent
-slice-read-parent c = search needs
 
 mul-etree : tie.Need-mul-etree
 mul-etree c = search needs
@@ -80,14 +80,14 @@ pub visit-spec : {M : Type 1} → statement M
 visit-spec =
     tie.close
     (tie.spec
+    mul-parent
+    slice-read-parent
     mul-work
     slice-write-work
     mul-lnz
     slice-read-lnz
     add-lnz
     slice-write-lnz
-    mul-parent
-    slice-read-parent
     mul-etree
     slice-write-etree
     wide-requires
