@@ -24,6 +24,38 @@ pub fn numbers(xs: &[u32]) {
     end_line();
 }
 
+// The whole number below 1,000 that x is, or 1,000 where it is none of them.
+fn whole(x: f64) -> u32 {
+    let mut k: u32 = 0;
+    while k < 1000 {
+        if k as f64 == x {
+            return k;
+        }
+        k += 1;
+    }
+    k
+}
+
+// The value, or a question mark where it is no whole number below 1,000.
+fn value(x: f64) {
+    let k = whole(x);
+    if k < 1000 {
+        number(k);
+    } else {
+        text(b" ?");
+    }
+}
+
+// The values, a space before each, and the end of the line.
+pub fn values(xs: &[f64]) {
+    let mut i: usize = 0;
+    while i < xs.len() {
+        value(xs[i]);
+        i += 1;
+    }
+    end_line();
+}
+
 // A refusal by its number and in words.
 pub fn refusal(refused: Refusal) {
     text(b"refused ");
