@@ -1,16 +1,16 @@
-// The figures of document 01, one line each.
+// The figures of document 01, one line each, and its edits.
 mod edits;
 mod largest;
 mod matrices;
 mod pivots;
-mod sides;
+mod solves;
 
 fn main() {
     matrices::arrow();
     matrices::orderings();
     matrices::smallest();
     matrices::oblong();
-    sides::pair();
+    solves::pair();
     pivots::pairs();
     pivots::single();
     largest::band();

@@ -5,6 +5,7 @@ use qdldl::Status;
 use say::numbers;
 use say::text;
 
+// The status before any call.
 fn empty() -> Status {
     Status {
         phase: Phase::Empty,

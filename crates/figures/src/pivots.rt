@@ -9,6 +9,7 @@ const EPS: f64 = 1e-12;
 
 const DELTA: f64 = 1e-7;
 
+// Regularisation on, by its defaults.
 fn defaults() -> Regularisation {
     Regularisation::On {
         eps: EPS,
@@ -16,48 +17,50 @@ fn defaults() -> Regularisation {
     }
 }
 
-// Says whether a pivot is zero, above zero, or neither.
+// Says whether a pivot is zero, above zero, or neither, and ends the line.
 fn side(d: f64) {
     if is_zero(d) {
         text(b", zero\n");
+    } else if is_positive(d) {
+        text(b", above zero\n");
     } else {
-        if is_positive(d) {
-            text(b", above zero\n");
-        } else {
-            text(b", not above zero\n");
-        }
+        text(b", not above zero\n");
     }
 }
 
-// Says whether a pivot is kept or shifted to delta, and its side of zero after that.
+// Says what a shifted pivot is: delta, or what sign 0 makes of it.
+fn shifted(d: f64) {
+    if d == DELTA {
+        text(b"becomes 1e-7");
+    } else if d == DELTA * 0.0 {
+        text(b"becomes delta*0");
+    } else {
+        text(b"becomes another number");
+    }
+}
+
+// Says whether a pivot is kept or what it becomes, and its side of zero after that.
 fn show(regularisation: Regularisation, sign: i8, d: f64) {
     let pivot = regularised(regularisation, sign, d);
     let value = pivot.value;
     if pivot.shifted {
-        text(b"becomes ");
-        if value == DELTA {
-            text(b"1e-7");
-        } else {
-            text(b"delta * sign");
-        }
+        shifted(value);
+    } else if value == d {
+        text(b"is kept");
     } else {
-        if value == d {
-            text(b"is kept");
-        } else {
-            text(b"is changed");
-        }
+        text(b"is changed");
     }
     side(value);
 }
 
-// The second pivots of two pairs.
+// The second pivots of two pairs: the last entry less 1 * 1.
 pub fn pairs() {
     text(b"[1 1; . -1], signs 1,-1: second pivot -2 ");
-    show(defaults(), -1, -1.0 - 1.0);
+    show(defaults(), -1, -1.0 - 1.0 * 1.0);
     text(b"[1 1; . -1], no signs, defaults: second pivot -2 ");
-    show(defaults(), 1, -1.0 - 1.0);
+    show(defaults(), 1, -1.0 - 1.0 * 1.0);
     text(b"[1 1; . 1], off: second pivot 0 ");
-    show(Regularisation::Off, 1, 1.0 - 1.0);
+    show(Regularisation::Off, 1, 1.0 - 1.0 * 1.0);
 }
 
 // The pivots of one unknown, at eps, just below it, at -0, and with sign 0.

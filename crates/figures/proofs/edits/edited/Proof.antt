@@ -3,17 +3,27 @@
 use mathlib.Core.Path.{_≡_, sym, _∙_}
 use mathlib.Core.List.{List}
 use native.Mathlib.Omega.{arith}
+use borrow.Author.Needs.{needs}
 use denote.Ref.{now}
 use lib.Ieee.{Float}
 use lib.ListN.{length}
 use Rattle.edit.specs.Kernels.{Editable}
 use Rattle.edit.proofs.Tested.{editable}
-use borrow.Author.Needs.{needs}
 use Rattle.figures.proofs.edits.edited.Statement.{statement}
 use Rattle.figures.proofs.edits.edited.Tie as tie
 
 abbrev start : tie.Else2 → tie.Start
 start e = e .before .before .before .before .before .before .before .before .before
+
+-- where the tests are passed, from each edit
+abbrev from-update : tie.After-update-values-arg4 → tie.Else2
+from-update c = c .before .before .before .before
+
+abbrev from-scale : tie.After-scale-values-arg3 → tie.Else2
+from-scale c = from-update (c .before .before .before .before .before .before)
+
+abbrev from-offset : tie.After-offset-values-arg4 → tie.Else2
+from-offset c = from-scale (c .before .before .before .before .before .before .before)
 
 -- past the tests, any three values are editable
 tested : (e : tie.Else2) (vals : List Float) → length vals ≡ 3 → Editable (now (start e .args .map)) (now (start e .args .indices)) vals
@@ -38,19 +48,16 @@ slice-aggregate-update-values : tie.Need-slice-aggregate-update-values
 slice-aggregate-update-values c = search needs
 
 update-values-requires : tie.Need-update-values-requires
-update-values-requires c κs =
-    let e = c .before .before .before .before in (tested e _ (start e .pre .0), omega arith)
+update-values-requires c κs = let e = from-update c in (tested e _ (start e .pre .0), omega arith)
 
 scale-values-requires : tie.Need-scale-values-requires
-scale-values-requires c κs =
-    let e = c .before .before .before .before .before .before .before .before .before .before in tested e _ (start e .pre .1 .0)
+scale-values-requires c κs = let e = from-scale c in tested e _ (start e .pre .1 .0)
 
 slice-aggregate-offset-values : tie.Need-slice-aggregate-offset-values
 slice-aggregate-offset-values c = search needs
 
 offset-values-requires : tie.Need-offset-values-requires
-offset-values-requires c κs =
-    let e = c .before .before .before .before .before .before .before .before .before .before .before .before .before .before .before .before .before in (tested e _ (start e .pre .1 .1), omega arith)
+offset-values-requires c κs = let e = from-offset c in (tested e _ (start e .pre .1 .1), omega arith)
 
 same-length : tie.Need-same-length
 same-length c = search needs

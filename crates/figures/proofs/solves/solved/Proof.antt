@@ -1,13 +1,13 @@
--- `figures::sides::solved` meets what the solve asks: its tests say it of the ordering and the factor.
+-- `figures::solves::solved` meets what the solve asks: its tests say it of the ordering and the factor.
 -- Assumes nothing.
 use mathlib.Core.Path.{_≡_, sym, _∙_}
 use native.Mathlib.Omega.{arith}
+use borrow.Author.Needs.{needs}
 use borrow.Author.Tests.{not-false}
 use denote.Ref.{now}
 use lib.ListN.{length}
-use borrow.Author.Needs.{needs}
-use Rattle.figures.proofs.sides.solved.Statement.{statement}
-use Rattle.figures.proofs.sides.solved.Tie as tie
+use Rattle.figures.proofs.solves.solved.Statement.{statement}
+use Rattle.figures.proofs.solves.solved.Tie as tie
 
 abbrev start : tie.Else1 → tie.Start
 start e = e .before .before .before .before .before .before
