@@ -1,5 +1,6 @@
 // The kernels of solve and edit by themselves, for the harness to compare and to time. Each asks what its namesake asks.
 ghost use mathlib.Core.Path.{_≡_};
+ghost use Prim.Native.Nat.{_<_, _^_};
 ghost use mathlib.Core.List.{reverse};
 ghost use lib.ListN.{length};
 ghost use Rattle.desk.specs.Lists.{upto};
@@ -10,6 +11,7 @@ ghost use Rattle.edit.specs.Kernels.{Editable};
 
 #[no_mangle]
 pub extern "C" fn coinravel_kernel_spoiled(n: usize, lp: &[u32], li: &[u32], lx: &[f64]) -> bool
+    requires { ⌜ n < 2 ^ 32 ⌝ }
     ensures { λ r. ⌜ r ≡ spoiledL n (now (lp .entry)) (now (li .entry)) (now (lx .entry)) ⌝ }
 {
     solve::spoiled(n, lp, li, lx)

@@ -7,7 +7,7 @@
 ghost use mathlib.Core.Path.{_≡_};
 ghost use mathlib.Core.Bool.{not, _&&_};
 ghost use mathlib.Core.List.{reverse};
-ghost use Prim.Native.Nat.{ℕ, _<_};
+ghost use Prim.Native.Nat.{ℕ, _<_, _^_};
 ghost use lib.Dec.{ltb};
 ghost use lib.ListN.{length, getD};
 ghost use Rattle.desk.specs.Lists.{any, upto};
@@ -21,19 +21,18 @@ use desk::wide;
 use order::ipermute;
 use order::permute;
 
-// Whether one of the rows of column i is not in i + 1 .. n - 1.
-fn outside(rows: &[u32], i: usize, n: usize) -> bool
+// Whether one of the rows of column i is not in i + 1 .. n - 1; it looks at all of them, which is faster than to stop at the first.
+fn outside(rows: &[u32], i: u32, n: u32) -> bool
     ensures { λ r. ⌜ r ≡ any (λ k. not (ltb i k && ltb k n)) (now (rows .entry)) ⌝ }
 {
+    let mut found = false;
     let mut j: usize = 0;
     while j < rows.len() {
-        let r = wide(rows[j]);
-        if !((i < r) & (r < n)) {
-            return true;
-        }
+        let r = rows[j];
+        found = found | !((i < r) & (r < n));
         j += 1;
     }
-    false
+    found
 }
 
 // x[r] = x[r] - l * v for each listed row r and its value l, in order.
@@ -68,6 +67,7 @@ fn gather(rows: &[u32], vals: &[f64], x: &[f64]) -> f64
 
 // Refusal 11, Spoiled, in solve: whether L's pointers or rows don't fit.
 pub fn spoiled(n: usize, lp: &[u32], li: &[u32], lx: &[f64]) -> bool
+    requires { ⌜ n < 2 ^ 32 ⌝ }
     ensures { λ r. ⌜ r ≡ spoiledL n (now (lp .entry)) (now (li .entry)) (now (lx .entry)) ⌝ }
 {
     if lp.len() == 0 {
@@ -80,7 +80,7 @@ pub fn spoiled(n: usize, lp: &[u32], li: &[u32], lx: &[f64]) -> bool
     }
     let mut c: usize = 0;
     while c < n {
-        if outside(column(lp, li, c), c, n) {
+        if outside(column(lp, li, c), c as u32, n as u32) {
             return true;
         }
         c += 1;

@@ -50,6 +50,12 @@ loop-holds c = rw sub-zero (spoiled-is _ _ _ _ (c .before .before .wide .ensures
 column-requires : tie.Need-column-requires Inv-loop μ-loop
 column-requires c κs = search needs
 
+cast-outside : tie.Need-cast-outside Inv-loop μ-loop
+cast-outside c = search needs
+
+cast-outside-2 : tie.Need-cast-outside-2 Inv-loop μ-loop
+cast-outside-2 c = search needs
+
 outside-requires : tie.Need-outside-requires Inv-loop μ-loop
 outside-requires c κs = search needs
 
@@ -87,6 +93,8 @@ spoiled-spec =
     returns-2
     loop-holds
     column-requires
+    cast-outside
+    cast-outside-2
     outside-requires
     returns-3
     add-c
