@@ -1,8 +1,8 @@
--- `replay::solve` is safe and ends. Its tests give what the solve asks. Assumes nothing.
+-- `replay::solves::solve` is safe and ends. Its tests give what the solve asks. Assumes nothing.
 use mathlib.Core.Path.{_∙_, sym}
 use borrow.Author.Needs.{needs}
-use Rattle.replay.proofs.solve.Statement.{statement}
-use Rattle.replay.proofs.solve.Tie as tie
+use Rattle.replay.proofs.solves.solve.Statement.{statement}
+use Rattle.replay.proofs.solves.solve.Tie as tie
 
 returns : tie.Need-returns
 returns c = search needs

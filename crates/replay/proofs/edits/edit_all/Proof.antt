@@ -1,12 +1,12 @@
--- `replay::edit_all` is safe and ends. The invariant: the loop stands within the edits, with no more done than bytes passed.
+-- `replay::edits::edit_all` is safe and ends. The invariant: the loop stands within the edits, with no more done than bytes passed.
 -- The measure is how many bytes are left. Assumes nothing.
 use Prim.Native.Nat.{_≤_, _-_}
 use mathlib.Core.Path.{_≡_}
 use native.Mathlib.Omega.{arith}
 use borrow.Author.Needs.{needs}
 use lib.ListN.{length}
-use Rattle.replay.proofs.edit_all.Statement.{statement}
-use Rattle.replay.proofs.edit_all.Tie as tie
+use Rattle.replay.proofs.edits.edit_all.Statement.{statement}
+use Rattle.replay.proofs.edits.edit_all.Tie as tie
 
 abbrev Inv-loop : tie.InvT-loop
 Inv-loop edits map vals₀ done₀ at₀ t8 vals done at = (at ≤ length edits) × (done ≤ at) × (length vals ≡ length vals₀)

@@ -1,10 +1,10 @@
--- `replay::total` is safe and ends. The invariant: the loop stands within the counts. The measure is how many are left.
+-- `replay::analyses::total` is safe and ends. The invariant: the loop stands within the counts. The measure is how many are left.
 -- Assumes nothing.
 use Prim.Native.Nat.{_≤_, _-_}
 use borrow.Author.Needs.{needs}
 use lib.ListN.{length}
-use Rattle.replay.proofs.total.Statement.{statement}
-use Rattle.replay.proofs.total.Tie as tie
+use Rattle.replay.proofs.analyses.total.Statement.{statement}
+use Rattle.replay.proofs.analyses.total.Tie as tie
 
 abbrev Inv-loop : tie.InvT-loop
 Inv-loop counts sum₀ i₀ sum i = i ≤ length counts

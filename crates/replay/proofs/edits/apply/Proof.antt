@@ -1,9 +1,9 @@
--- `replay::apply` is safe and ends. Its tests give what the kernels of the edits ask. Assumes nothing.
+-- `replay::edits::apply` is safe and ends. Its tests give what the kernels of the edits ask. Assumes nothing.
 use mathlib.Core.Path.{_∙_, refl, sym}
 use borrow.Author.Needs.{needs}
 use Rattle.edit.proofs.Tested.{editable}
-use Rattle.replay.proofs.apply.Statement.{statement}
-use Rattle.replay.proofs.apply.Tie as tie
+use Rattle.replay.proofs.edits.apply.Statement.{statement}
+use Rattle.replay.proofs.edits.apply.Tie as tie
 
 returns : tie.Need-returns
 returns c = search needs
