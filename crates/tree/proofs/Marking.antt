@@ -108,6 +108,7 @@ module _ (s : Setting) (j i : ℕ) (w l e : List ℕ) (c : Climbing s j i w l e)
     roomCounts = omega (arith, in-n, c .tables .roomCounts .enough);
     roomParents = omega (arith, in-n, c .tables .roomParents .enough);
     fits = omega (arith, counted-before, length-later (s .g) j i, c .below, c .tables .small);
+    next = omega (arith, lt, c .below, c .tables .small);
   }
 
   module _ (w′ l′ e′ : List ℕ) (r : ℕ) (v : Visited i j w w′ l l′ e e′ r) where

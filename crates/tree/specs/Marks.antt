@@ -63,6 +63,7 @@ pub record Visitable (i : ℕ) (work lnz etree : List ℕ) : Type 0 where
   pub roomCounts : i < length lnz
   pub roomParents : i < length etree
   pub fits : getD lnz i 0 < none
+  pub next : i + 1 < none
 
 -- "4,294,967,295 stands for none"
 abbrev pub orElse : ℕ → ℕ → ℕ
