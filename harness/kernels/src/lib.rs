@@ -91,11 +91,12 @@ pub struct Columns<'a> {
     pub Lx: &'a [f64],
 }
 
-/// The test of L.
+/// The test of L at an order n below 2^32.
 #[must_use]
 pub fn spoiled(n: usize, L: Columns) -> bool {
     let Columns { Lp, Li, Lx } = L;
-    // Sound, since the function asks nothing.
+    assert!(u32::try_from(n).is_ok());
+    // Sound by the line above.
     unsafe { coinravel_kernel_spoiled(n, Lp.as_ptr(), Lp.len(), Li.as_ptr(), Li.len(), Lx.as_ptr(), Lx.len()) }
 }
 
