@@ -1,5 +1,5 @@
 //! The analysis answered by the proved archive.
-use crate::{by_plain::WORD, faults::ToAnalysis, text::canonical};
+use crate::{by_plain::WORD, faults::ToAnalysis, text::same};
 use coinravel::{Matrix, Tables};
 use plain::Analysis;
 
@@ -16,9 +16,9 @@ impl Reply {
     /// Bit for bit, with any NaN for a NaN.
     pub fn same(&self, other: &Reply) -> bool {
         let (a, b) = (&self.out, &other.out);
-        let floats = |x: &[f64]| x.iter().map(|&x| canonical(x)).collect::<Vec<u64>>();
         (self.number, self.value, &self.words) == (other.number, other.value, &other.words)
-            && (&a.A.Ap, &a.A.Ai, floats(&a.A.Ax), &a.AtoPAPt) == (&b.A.Ap, &b.A.Ai, floats(&b.A.Ax), &b.AtoPAPt)
+            && (&a.A.Ap, &a.A.Ai, &a.AtoPAPt) == (&b.A.Ap, &b.A.Ai, &b.AtoPAPt)
+            && same(&a.A.Ax, &b.A.Ax)
             && (&a.A.etree, &a.A.Lnz, &a.A.Dsigns) == (&b.A.etree, &b.A.Lnz, &b.A.Dsigns)
     }
 }

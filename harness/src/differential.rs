@@ -7,7 +7,7 @@ use crate::{
     faults::{to_analysis, ToAnalysis, ANALYSIS},
     random,
     rng::Rng,
-    text::canonical,
+    text::same,
 };
 use coinravel::STATUS_WORDS;
 use kernels::Columns;
@@ -207,11 +207,6 @@ fn by_parts(rng: &mut Rng, count: &mut Count, mut case: Case) {
         count.differ += 1;
         eprintln!("differs: {case:?} {F:?}");
     }
-}
-
-/// Bit for bit, with any NaN for a NaN.
-fn same(a: &[f64], b: &[f64]) -> bool {
-    a.len() == b.len() && a.iter().zip(b).all(|(&a, &b)| canonical(a) == canonical(b))
 }
 
 fn damage_L(rng: &mut Rng, F: &mut Factors) {

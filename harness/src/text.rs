@@ -20,6 +20,11 @@ pub fn canonical(x: f64) -> u64 {
     }
 }
 
+/// Bit for bit, with any NaN for a NaN.
+pub fn same(a: &[f64], b: &[f64]) -> bool {
+    a.len() == b.len() && a.iter().zip(b).all(|(&a, &b)| canonical(a) == canonical(b))
+}
+
 /// One line of f64 by their bits, any NaN as the same one.
 fn bits(keyword: &str, numbers: &[f64]) -> String {
     let hex = |x: &f64| format!("{:016x}", canonical(*x));

@@ -21,7 +21,7 @@ use desk::wide;
 use order::ipermute;
 use order::permute;
 
-// Whether one of the rows of column i is not in i + 1 .. n - 1; it looks at all of them, which is faster than to stop at the first.
+// Whether one of the rows of column i is not in i + 1 .. n - 1; it looks at all of them, so that several are compared at once.
 fn outside(rows: &[u32], i: u32, n: u32) -> bool
     ensures { λ r. ⌜ r ≡ any (λ k. not (ltb i k && ltb k n)) (now (rows .entry)) ⌝ }
 {

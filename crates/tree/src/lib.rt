@@ -12,8 +12,8 @@ use desk::wide;
 // No parent; as a mark, no row yet.
 const NONE: u32 = 4294967295;
 
-// Marks i, gives its column row j, and answers its parent, which is j where there was none. Mostly the parent is the next unknown:
-// asked for first, it is known without waiting for the table.
+// Marks i, gives its column row j, and answers its parent, which is j where there was none. Where L is full the parent is the next
+// unknown: asked for first, it is known without waiting for the table.
 fn visit(i: usize, j: u32, work: &mut [u32], lnz: &mut [u32], etree: &mut [u32]) -> usize
     requires { ⌜ Visitable i (now work) (now lnz) (now etree) ⌝ }
     ensures { λ r. ⌜ Visited i j (now (work .entry)) (now (work .exit)) (now (lnz .entry)) (now (lnz .exit)) (now (etree .entry)) (now (etree .exit)) r ⌝ }
