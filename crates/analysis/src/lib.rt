@@ -1,4 +1,6 @@
 // The analysis: its refusals in their order, and the tables of an accepted one.
+#![tactic(auto)]
+
 ghost use Rattle.std.specs.Prelude.{◌≡◌, [], ◌∷◌, ◌≤◌, pos, length, replicate};
 ghost use Rattle.desk.specs.Lists.{over};
 ghost use Rattle.csc.specs.Csc.{matrix};

@@ -4,6 +4,8 @@
 //            |   |       |
 //   rowval   r r r r . . r r      the rows of column c lie from colptr[c] to colptr[c + 1]
 //   nzval    v v v v . . v v
+#![tactic(auto)]
+
 ghost use Rattle.std.specs.Prelude.{◌≡◌, ℕ, ◌+◌, ◌^◌, ◌<◌, ◌≤◌, leb, length, get_or, take};
 ghost use Rattle.desk.specs.Lists.{any, sums, over};
 ghost use Rattle.csc.specs.Csc.{column, rises, bad_pointers, malformed, not_upper, empty_column, unsorted_column};

@@ -1,4 +1,6 @@
 // A royalty pool shared by three pictures, the arrow of document 01: each step and each refusal in words.
+#![tactic(auto)]
+
 use qdldl::{Answer, Status};
 use say::{numbers, text};
 

@@ -1,4 +1,6 @@
 // The desk: what it sends back, by number, and the limits of what crosses it.
+#![tactic(auto)]
+
 ghost use Rattle.std.specs.Prelude.{◌≡◌, ◌≤◌, [], ◌∷◌, length, replicate};
 ghost use Rattle.desk.specs.Desk.{number_of, bad_size, bad_sign};
 ghost use Rattle.desk.specs.Lists.{any, short, over};

@@ -3,6 +3,8 @@
 //   indices   i i . . i      places of the caller's values, in any order, a place as often as it stands there
 //   map       p p p . p      the place of each in the permuted values
 //   vals      v v v . v      the permuted values
+#![tactic(auto)]
+
 ghost use Rattle.std.specs.Prelude.{◌≡◌, ◌<◌, length, get_or};
 ghost use Rattle.edit.specs.Edit.{updated, scaled, offset_by, offset as offsetted};
 ghost use Rattle.edit.specs.Kernels.{Editable};

@@ -1,4 +1,6 @@
 // The C face of the calls; include/coinravel.h says the same in C.
+#![tactic(auto)]
+
 ghost use Rattle.std.specs.Prelude.{◌≤◌, ◌≡◌, [], ◌∷◌, length, get_or};
 ghost use Rattle.desk.specs.Desk.{values_of};
 ghost use Rattle.desk.specs.Lists.{over};

@@ -1,4 +1,6 @@
 // The figures of document 01, one line each, and its edits.
+#![tactic(auto)]
+
 mod edits;
 mod largest;
 mod matrices;

@@ -1,4 +1,6 @@
 // The kernels of factor, solve and edit by themselves, for the harness to compare and to time. Each asks what its namesake asks.
+#![tactic(auto)]
+
 ghost use Rattle.std.specs.Prelude.{◌≡◌, ◌<◌, ◌≤◌, ◌^◌, [], reverse, length};
 ghost use Rattle.desk.specs.Lists.{upto, over};
 ghost use Rattle.csc.specs.Csc.{matrix};

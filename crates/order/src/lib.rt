@@ -1,4 +1,6 @@
 // An ordering, perm[new] = old: the test that it is one, its inverse, and the two permutations.
+#![tactic(auto)]
+
 ghost use Rattle.std.specs.Prelude.{◌≡◌, ◌≤◌, ◌<◌, ◌^◌, pos, length};
 ghost use Rattle.std.specs.Float.{nan};
 ghost use Rattle.desk.specs.Lists.{over};

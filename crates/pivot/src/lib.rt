@@ -1,4 +1,6 @@
 // The pivot: regularisation, and one value for the number, its reciprocal and whether it was shifted.
+#![tactic(auto)]
+
 ghost use Rattle.std.specs.Prelude.{◌≡◌};
 ghost use Rattle.pivot.specs.Pivots.{made, pivot_of, is_zero, is_positive};
 

@@ -1,4 +1,6 @@
 // The status and the public calls.
+#![tactic(auto)]
+
 ghost use Rattle.std.specs.Prelude.{◌≡◌, cond, [], ◌∷◌};
 ghost use Rattle.csc.specs.Csc.{matrix};
 ghost use Rattle.analysis.specs.Analysis.{written, analysis_lent};

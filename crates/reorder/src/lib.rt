@@ -1,4 +1,6 @@
 // The reordered triangle. Entry (r, c) goes to column max(iperm[r], iperm[c]), row the minimum; columns fill in input storage order.
+#![tactic(auto)]
+
 ghost use Rattle.std.specs.Prelude.{◌≡◌, ℕ, ◌+◌, ◌^◌, ◌<◌, ◌≤◌, min, max, length, get_or, take, set};
 ghost use Rattle.desk.specs.Lists.{sums, over};
 ghost use Rattle.reorder.specs.Reorder.{new_cols, new_rows};

@@ -1,4 +1,6 @@
 // Replays the vectors on standard input, and says how many of them differ.
+#![tactic(auto)]
+
 mod analyses;
 mod edits;
 mod field;

@@ -5,6 +5,8 @@
 //   next          |   |     |
 //
 //   order   p p . . . . . c c c     a path in the making at the front; at the back, from top on, the columns in the order of their visits
+#![tactic(auto)]
+
 ghost use Rattle.std.specs.Prelude.{◌≡◌, ℕ, ◌+◌, ◌^◌, ◌<◌, ◌≤◌, Bool, cond, List, eqb, length, get_or, take, drop};
 ghost use Rattle.std.specs.Float.{nan};
 ghost use Rattle.csc.specs.Csc.{matrix};

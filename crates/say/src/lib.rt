@@ -1,4 +1,6 @@
 // Words and numbers on standard output, for the programs.
+#![tactic(auto)]
+
 use desk::Refusal;
 
 pub fn text(bytes: &[u8]) {

@@ -4,6 +4,8 @@
 //        |   |     |
 //   li   r r r r . r      the rows of column i lie from lp[i] to lp[i + 1], each in i + 1 .. n - 1
 //   lx   l l l l . l
+#![tactic(auto)]
+
 ghost use Rattle.std.specs.Prelude.{◌≡◌, not, ◌&&◌, reverse, ℕ, ◌<◌, ◌^◌, ltb, length, get_or};
 ghost use Rattle.desk.specs.Lists.{any, upto};
 ghost use Rattle.pivot.specs.Pivots.{+0};

@@ -1,4 +1,6 @@
 // The elimination tree: parents and column counts, as striking the unknowns out gives them.
+#![tactic(auto)]
+
 ghost use Rattle.std.specs.Prelude.{◌≡◌, ◌+◌, ◌<◌, ◌^◌, length};
 ghost use Rattle.desk.specs.Lists.{total};
 ghost use Rattle.tree.specs.Tree.{Upper, Treed};

@@ -10,8 +10,7 @@ use lib.Signed.{lt_z}
 use mir.Syntax.{w8}
 use Rattle.desk.specs.Desk.{bad_sign}
 use Rattle.desk.proofs.ReadBack.{read_back}
-use Rattle.desk.proofs.bad_sign.Statement.{statement}
-use Rattle.desk.proofs.bad_sign.Tie as tie
+use Rattle.desk.proofs.bad_sign.Goals as goal
 
 under : (z : ℤ) → lt_z z (negsuc 0) ≡ true → true ≡ bad_sign z
 under (pos n) e = absurd (false≢true e)
@@ -31,17 +30,13 @@ above (pos (suc zero)) e = absurd (true≢false e)
 above (pos (suc (suc n))) e = refl
 above (negsuc n) e = absurd (true≢false e)
 
-returns : tie.Need-returns
-returns c =
-    let s = c.before.before in
-    let z = s.args.sign in
-    within z (read_back (λ y. lt_z y (negsuc 0)) w8 z s.ranges.sign c.before.if1.false) (read_back (λ y. lt_z y (pos 2)) w8 z s.ranges.sign c.if2.true)
+pub returns-in-minus1-to-1 : goal.returns-in-minus1-to-1
+returns-in-minus1-to-1 c =
+    let z = c.args.sign in
+    within z (read_back (λ y. lt_z y (negsuc 0)) w8 z c.ranges.sign c.in-minus1-to-1.if-sign-ltminus1-own.false) (read_back (λ y. lt_z y (pos 2)) w8 z c.ranges.sign c.in-minus1-to-1.if-sign-lt2-own.true)
 
-returns-2 : tie.Need-returns-2
-returns-2 c = let s = c.before in under s.args.sign (read_back (λ y. lt_z y (negsuc 0)) w8 s.args.sign s.ranges.sign c.if1.true)
+pub returns-in_default : goal.returns-in_default
+returns-in_default c = under c.args.sign (read_back (λ y. lt_z y (negsuc 0)) w8 c.args.sign c.ranges.sign c.in_default.if-sign-ltminus1-own.true)
 
-returns-3 : tie.Need-returns-3
-returns-3 c = let s = c.before.before in above s.args.sign (read_back (λ y. lt_z y (pos 2)) w8 s.args.sign s.ranges.sign c.if2.false)
-
-pub bad-sign-spec : {M : Type 1} → statement M
-bad-sign-spec = tie.close (tie.spec returns returns-2 returns-3)
+pub returns-in_default-2 : goal.returns-in_default-2
+returns-in_default-2 c = above c.args.sign (read_back (λ y. lt_z y (pos 2)) w8 c.args.sign c.ranges.sign c.in_default.if-sign-lt2-own.false)

@@ -1,0 +1,231 @@
+#!/usr/bin/env python3
+"""Turns proofs/F/Proof.antt, which closes the older Rattle's goals one by one, into Invariants.antt and Answers.antt.
+
+  rt check --generated NAMES --old-names        in crates/CRATE: each goal's older and new name
+  python3 tools/answers.py CRATE NAMES [F ..]   at the top: the functions F, or all that have a Proof.antt
+
+An answer that only searches goes, since Rattle searches by itself. What the text does not tell is left to the check."""
+import json
+import os
+import re
+import sys
+from collections import defaultdict
+
+WORD = r"[\w'₀₁₂₃₄₅₆₇₈₉+*-]+"
+PATH = re.compile(r"(?<![\w.'-])(" + WORD + r")((?:\.[\w'+*-]+)+)")
+FIELDS = {"pre": "requires", "inv": "invariant"}
+
+
+def blocks(text):
+    """The top-level declarations, each with the comment lines above it: (name, lines)."""
+    out, comment, block = [], [], None
+    for line in text.split("\n"):
+        head = re.match(r"(?:abbrev )?(?:pub )?(" + WORD + r") :(?:\s|$)", line)
+        if head:
+            block = (head[1], comment + [line])
+            out.append(block)
+            comment = []
+        elif line.startswith("--"):
+            block = None
+            comment.append(line)
+        elif line.startswith("use "):
+            block = None
+            comment = []
+        elif block is None:
+            if line.strip():
+                comment.append(line)
+            elif comment and comment[-1].startswith("--"):
+                comment = []
+        else:
+            if not line.strip():
+                block = None
+            else:
+                block[1].append(line)
+    return out
+
+
+def flat(name):
+    return name.replace("-", "_")
+
+
+def norm(name):
+    return re.sub(r"^overflow_", "", flat(re.sub(r"^Need-", "", name)))
+
+
+class Function:
+    def __init__(self, names, old_text):
+        self.old = old_text
+        self.names = names
+        self.step = {}
+        for place in names["places"]:
+            old, new = place[2]
+            if old:
+                self.step.setdefault(flat(old), new)
+        for old, new in [l[0] for l in names["loops"]]:
+            self.step[flat(old)] = new
+        self.place = {flat(p[0]): n for p, n in zip(names["places"], names["places_by_name"])}
+        self.needs = names["needs"]
+        self.alias = {}
+        self.helpers = {}
+
+    def need(self, need):
+        wanted = norm(need)
+        for old, new in self.needs:
+            if norm(old) == wanted:
+                return new
+        for old, new in self.needs:
+            if norm(new) == wanted:
+                return new
+        return None
+
+    def path(self, m):
+        head, rest = m[1], m[2].split(".")[1:]
+        if head in ("tie", "goal"):
+            return m[0]
+        out = []
+        for part in rest:
+            if part == "before":
+                continue
+            if part in ("taken", "left") and out and ("test" in out[-1] or out[-1].startswith("if")):
+                part = {"taken": "true", "left": "false"}[part]
+            if not out or out[-1] == "":
+                part = self.step.get(flat(part), part)
+            out.append(FIELDS.get(part, part))
+        return ".".join([head] + out)
+
+    def term(self, text):
+        text = PATH.sub(self.path, text)
+        while True:
+            before = text
+            for name in self.alias:
+                text = re.sub(r"(?<![\w.'-])" + re.escape(name) + r" (" + WORD + r")(?![\w'-])", r"\1", text)
+            text = re.sub(r"(?<![\w'-])\((" + WORD + r")\)(?=\.)", r"\1", text)
+            text = re.sub(r"([ (])\(([\w'₀-]+)\)(?![\w.])", r"\1\2", text)
+            m = re.search(r"let (" + WORD + r") = (" + WORD + r") in\s*", text)
+            if m and not m[2].isdigit():
+                rest = re.sub(r"(?<![\w.'-])" + re.escape(m[1]) + r"(?![\w'-])(?! =)", m[2], text[m.end():])
+                text = text[:m.start()] + rest
+            text = PATH.sub(self.path, text)
+            if text == before:
+                return text
+
+
+def uses(text):
+    return re.findall(r"^use (\S+?)\.\{(.*?)\}$", text, re.M)
+
+
+def imports(text, body):
+    out = []
+    for module, names in uses(text):
+        if ".Statement" in module:
+            continue
+        kept = []
+        for n in re.split(r",\s*", names):
+            shown = n.split(" as ")[-1]
+            if "◌" in shown:
+                used = all(w in body for w in shown.split("◌") if w)
+            else:
+                used = re.search(r"(?<![\w'-])" + re.escape(shown) + r"(?![\w'-])", body)
+            if used:
+                kept.append(n)
+        if kept:
+            out.append("use %s.{%s}" % (module, ", ".join(kept)))
+    return out
+
+
+def loop_of(function, name):
+    for old, new in [l[0] for l in function.names["loops"]]:
+        if name in ("invariant-" + old, "decreases-" + old):
+            return name.split("-")[0] + "-" + new
+    return name
+
+
+def turn(folder, crate_path, names):
+    path = os.path.join(folder, "Proof.antt")
+    text = open(path).read()
+    f = Function(names, text)
+    header = re.match(r"((?:--.*\n)*)", text)[1]
+    bs = blocks(text)
+    for name, lines in bs:
+        sig = " ".join(l for l in lines if not l.startswith("--"))
+        m = re.search(r"^abbrev " + re.escape(name) + r" : tie\.\S+(?: invariant\S* decreases\S*)* → tie\.\S+(?: invariant\S* decreases\S*)* *" + re.escape(name) + r" (\w+) = (\S+)$", sig)
+        if m and re.fullmatch(re.escape(m[1]) + r"(\.before)*|(" + WORD + r" )?.*", m[2]):
+            f.alias[name] = True
+    changed = True
+    invariants, answers, places = [], [], set()
+    for name, lines in bs:
+        comment = [l for l in lines if l.startswith("--")]
+        code = [l for l in lines if not l.startswith("--")]
+        body = "\n".join(code)
+        if name in f.alias:
+            continue
+        if re.search(r"\{M : Type 1\} → statement M", body):
+            continue
+        sig_end = next((i for i, l in enumerate(code) if re.match(re.escape(name) + r"(?: [^:]*)? =(\s|$)", l)), None)
+        if re.match(r"abbrev (invariant|decreases)", code[0]) and "tie." in code[0]:
+            d = "\n".join(code[sig_end:])
+            m = re.match(re.escape(name) + r" (.*?) =\s*(.*)$", d, re.S)
+            params, rhs = m[1].split(), m[2]
+            for p in sorted(params, key=len, reverse=True):
+                new = "l.initial." + p[:-1] if p.endswith("₀") else "l." + p
+                rhs = re.sub(r"(?<![\w.'₀-])" + re.escape(p) + r"(?![\w'₀-])(?! =)", new, rhs)
+            new = loop_of(f, name)
+            invariants.append("\n".join(comment + ["abbrev pub %s : goal.%s" % (new, new), "%s l = %s" % (new, rhs)]))
+            continue
+        m = re.search(r": tie\.(Need-" + WORD + r")", code[0])
+        if m:
+            new = f.need(m[1]) or f.need(name)
+            d = "\n".join(code[sig_end:])
+            middle = code[1:sig_end]
+            rhs = re.match(re.escape(name) + r"[^=]*=\s*(.*)$", d, re.S)[1]
+            if rhs.strip() in ("search rules",):
+                continue
+            if new is None:
+                answers.append("\n".join(comment + ["-- ? " + m[1], "-- " + rhs.replace("\n", "\n-- ")]))
+                continue
+            rhs = f.term(rhs)
+            for h, p in f.helpers.items():
+                rhs = re.sub(r"(?<![\w.'-])" + re.escape(h) + r" c(?![\w.'-])", "%s (goal.at.%s c).%s" % (h, new, p), rhs)
+            sep = "\n    " if "\n" in rhs or len(rhs) > 120 else " "
+            answers.append("\n".join(comment + ["pub %s : goal.%s" % (new, new)] + middle + ["%s c =%s%s" % (new, sep, rhs)]))
+            continue
+        m = re.search(r"\((" + WORD + r") : tie\.(" + WORD + r")(?: invariant\S* decreases[^\s)]*)*\)", body)
+        if m:
+            p = f.place.get(flat(m[2]), m[2])
+            places.add(p)
+            f.helpers[name] = p
+            body = body[: m.start()] + "(%s : %s)" % (m[1], p) + body[m.end():]
+        answers.append("\n".join(comment + [f.term(body)]))
+    module = "Rattle.%s.proofs.%s" % (crate_path[0], ".".join(crate_path[1:]))
+    if invariants:
+        b = "\n\n".join(invariants)
+        with open(os.path.join(folder, "Invariants.antt"), "w") as o:
+            o.write(header + "\n".join(imports(text, b) + ["use %s.Given as goal" % module]) + "\n\n" + b + "\n")
+    if answers:
+        b = "\n\n".join(answers)
+        extra = ["use %s.Goals as goal" % module]
+        if places:
+            extra.append("use %s.Goals.{%s}" % (module, ", ".join(sorted(places))))
+        with open(os.path.join(folder, "Answers.antt"), "w") as o:
+            o.write(("" if invariants else header) + "\n".join(imports(text, b) + extra) + "\n\n" + b + "\n")
+    os.remove(path)
+
+
+def main():
+    crate, names, only = sys.argv[1], json.load(open(os.path.join(sys.argv[2], "names.json"))), sys.argv[3:]
+    top = os.path.join("crates", crate, "proofs")
+    for folder, _, files in sorted(os.walk(top)):
+        if "Proof.antt" not in files:
+            continue
+        parts = os.path.relpath(folder, top).split(os.sep)
+        if only and "/".join(parts) not in only:
+            continue
+        key = "Rattle-%s-proofs.%s.Lts" % (crate, ".".join(parts))
+        if key not in names:
+            print("no names:", key)
+            continue
+        turn(folder, [crate] + parts, names[key])
+        print("turned", "/".join(parts))
+
+
+main()
