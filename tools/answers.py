@@ -20,7 +20,7 @@ def blocks(text):
     """The top-level declarations, each with the comment lines above it: (name, lines)."""
     out, comment, block = [], [], None
     for line in text.split("\n"):
-        head = re.match(r"(?:abbrev )?(?:pub )?(" + WORD + r") :(?:\s|$)", line)
+        head = re.match(r"(?:abbrev )?(?:pub )?(" + WORD + r") :(?:\s|$)", line) or re.match(r"(module) ", line)
         if head:
             block = (head[1], comment + [line])
             out.append(block)
@@ -29,18 +29,14 @@ def blocks(text):
             block = None
             comment.append(line)
         elif line.startswith("use "):
-            block = None
+            block, comment = None, []
+        elif block is not None:
+            block[1].append(line)
+        elif not line.strip():
             comment = []
-        elif block is None:
-            if line.strip():
-                comment.append(line)
-            elif comment and comment[-1].startswith("--"):
-                comment = []
-        else:
-            if not line.strip():
-                block = None
-            else:
-                block[1].append(line)
+    for _, lines in out:
+        while not lines[-1].strip():
+            lines.pop()
     return out
 
 
@@ -66,6 +62,7 @@ class Function:
         self.place = {flat(p[0]): n for p, n in zip(names["places"], names["places_by_name"])}
         self.needs = names["needs"]
         self.alias = {}
+        self.answers = {}
         self.helpers = {}
 
     def need(self, need):
@@ -88,10 +85,21 @@ class Function:
                 continue
             if part in ("taken", "left") and out and ("test" in out[-1] or out[-1].startswith("if")):
                 part = {"taken": "true", "left": "false"}[part]
-            if not out or out[-1] == "":
+            if not out:
                 part = self.step.get(flat(part), part)
             out.append(FIELDS.get(part, part))
-        return ".".join([head] + out)
+        return ".".join([head] + self.clause(out))
+
+    def clause(self, parts):
+        """The clause of `requires` that a projection of the older pair is."""
+        fields = (self.names["pre"] or {}).get("fields")
+        if not fields or len(fields) < 2 or not parts or parts[0] != "requires":
+            return parts
+        for i, field in enumerate(fields):
+            pair = ["1"] * i + (["0"] if i + 1 < len(fields) else [])
+            if parts[1 : 1 + len(pair)] == pair:
+                return ["requires", field] + parts[1 + len(pair) :]
+        return parts
 
     def term(self, text):
         text = PATH.sub(self.path, text)
@@ -106,6 +114,7 @@ class Function:
                 rest = re.sub(r"(?<![\w.'-])" + re.escape(m[1]) + r"(?![\w'-])(?! =)", m[2], text[m.end():])
                 text = text[:m.start()] + rest
             text = PATH.sub(self.path, text)
+            text = re.sub(r", (?:\(start [^()]*\)|[\w'-]+)\.(?:good|well-formed|well_formed)[.0-9]*(?=[,)])", "", text)
             if text == before:
                 return text
 
@@ -183,6 +192,9 @@ def turn(folder, crate_path, names):
             if new is None:
                 answers.append("\n".join(comment + ["-- ? " + m[1], "-- " + rhs.replace("\n", "\n-- ")]))
                 continue
+            for label, term in f.answers.items():
+                rhs = re.sub(r"(?<![\w.'-])" + re.escape(label) + r" " + WORD + r"(?:\.before)*(?![\w'-])", lambda m: "(%s)" % term if rhs.strip() != m[0] else term, rhs)
+            f.answers[name] = rhs.strip()
             rhs = f.term(rhs)
             for h, p in f.helpers.items():
                 rhs = re.sub(r"(?<![\w.'-])" + re.escape(h) + r" c(?![\w.'-])", "%s (goal.at.%s c).%s" % (h, new, p), rhs)

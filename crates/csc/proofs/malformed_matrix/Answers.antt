@@ -4,13 +4,11 @@ use Prim.Native.Nat.{ℕ}
 use mathlib.Core.Bool.{Bool, true, false}
 use mathlib.Core.List.{List}
 use mathlib.Core.Path.{◌≡◌}
-use borrow.Author.Rules.{rules}
 use lib.Dec.{leb}
 use lib.ListN.{length}
 use Rattle.desk.specs.Lists.{any}
 use Rattle.csc.specs.Csc.{bad_pointers, malformed}
-use Rattle.csc.proofs.malformed_matrix.Statement.{statement}
-use Rattle.csc.proofs.malformed_matrix.Tie as tie
+use Rattle.csc.proofs.malformed_matrix.Goals as goal
 
 module _ (n : ℕ) (ptr rows : List ℕ) where
   by-pointers : true ≡ bad_pointers (length rows) ptr → true ≡ malformed n ptr rows
@@ -21,18 +19,8 @@ module _ (n : ℕ) (ptr rows : List ℕ) where
   unfolding malformed
   by_rows e h = rw (← e) h
 
-bad-pointers-requires : tie.Need-bad-pointers-requires
-bad-pointers-requires c κs = search rules
+pub returns-then-bad_pointers : goal.returns-then-bad_pointers
+returns-then-bad_pointers c = by-pointers _ _ _ (rw c.if-bad_pointers.true at c.bad_pointers.ensures)
 
-returns : tie.Need-returns
-returns c = by-pointers _ _ _ (rw c.if1.true at c.before.bad-pointers.ensures)
-
-reaches-requires : tie.Need-reaches-requires
-reaches-requires c κs = search rules
-
-returns-2 : tie.Need-returns-2
-returns-2 c = by_rows _ _ _ (rw c.before.if1.false at c.before.before.bad-pointers.ensures) c.reaches.ensures
-
-pub malformed-matrix-spec : {M : Type 1} → statement M
-malformed-matrix-spec =
-    tie.close (tie.spec bad-pointers-requires returns reaches-requires returns-2)
+pub returns : goal.returns
+returns c = by_rows _ _ _ (rw c.if-bad_pointers.false at c.bad_pointers.ensures) c.reaches.ensures
