@@ -13,8 +13,7 @@ use mir.Val.{SFits, of_z}
 use Rattle.desk.proofs.ReadBack.{read_back}
 use Rattle.pivot.specs.Pivots.{◌⊕◌, ◌⊖◌}
 use Rattle.edit.specs.Edit.{offset_by}
-use Rattle.edit.proofs.offset_by.Statement.{statement}
-use Rattle.edit.proofs.offset_by.Tie as tie
+use Rattle.edit.proofs.offset_by.Goals as goal
 
 kept : (offset : Float) (z : ℤ) (old : Float) → SFits w8 z → of_z w8 z ≡ 0 → old ≡ offset_by offset z old
 kept offset (pos zero) old f e = refl
@@ -30,18 +29,11 @@ more offset (pos zero) old ne l = absurd (ne refl)
 more offset (pos (suc n)) old ne l = refl
 more offset (negsuc n) old ne l = absurd (true≢false l)
 
-returns : tie.Need-returns
-returns c = let s = c.before in kept _ s.args.sign _ s.ranges.sign c.match.keys1
+pub returns-in-0 : goal.returns-in-0
+returns-in-0 c = kept _ c.args.sign _ c.ranges.sign c.in-0.keys1
 
-returns-2 : tie.Need-returns-2
-returns-2 c =
-    let s = c.before.before in
-    less _ s.args.sign _ (read_back (λ y. lt_z y (pos 0)) w8 s.args.sign s.ranges.sign c.if1.true)
+pub returns-in-minus128-to-minus1 : goal.returns-in-minus128-to-minus1
+returns-in-minus128-to-minus1 c = less _ c.args.sign _ (read_back (λ y. lt_z y (pos 0)) w8 c.args.sign c.ranges.sign c.if-sign-lt0.true)
 
-returns-3 : tie.Need-returns-3
-returns-3 c =
-    let s = c.before.before in
-    more _ s.args.sign _ c.before.match.rest.1 (read_back (λ y. lt_z y (pos 0)) w8 s.args.sign s.ranges.sign c.if1.false)
-
-pub offset-by-spec : {M : Type 1} → statement M
-offset-by-spec = tie.close (tie.spec returns returns-2 returns-3)
+pub returns-in-1-to-127 : goal.returns-in-1-to-127
+returns-in-1-to-127 c = more _ c.args.sign _ c.in-0.rest.1 (read_back (λ y. lt_z y (pos 0)) w8 c.args.sign c.ranges.sign c.if-sign-lt0.false)

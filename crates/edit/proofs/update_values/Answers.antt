@@ -1,0 +1,42 @@
+use Prim.Native.Nat.{◌<◌, ◌-◌}
+use mathlib.Core.Path.{refl}
+use native.Mathlib.Omega.{arith}
+use lib.Ieee.{nan}
+use lib.ListN.{length, length-set}
+use Rattle.edit.specs.Edit.{updated}
+use Rattle.edit.proofs.Edited.{edited-inside, edited_more, edited-done}
+use Rattle.edit.proofs.update_values.Goals as goal
+use Rattle.edit.proofs.update_values.Goals.{After-place-p}
+
+pub loop-j-init : goal.loop-j-init
+unfolding updated
+loop-j-init c = (refl, refl)
+
+pub place-p-requires : goal.place-p-requires
+place-p-requires c = (c.loop-j-test.true, c.requires.editable.indexed c.loop-j.j c.loop-j-test.true)
+
+-- the place that the turn takes is one of vals
+inside : (c : After-place-p) → c.place-p.result < length c.loop-j.vals
+inside c = edited-inside c.requires.editable c.loop-j.invariant.0 c.loop-j.j c.loop-j-test.true c.place-p.ensures
+
+pub offset_bounds-values-j : goal.offset_bounds-values-j
+offset_bounds-values-j c = omega (arith, c.requires.values_len)
+
+pub bounds-values-j : goal.bounds-values-j
+bounds-values-j c = omega (arith, c.requires.values_len)
+
+pub offset_bounds-vals-p : goal.offset_bounds-vals-p
+offset_bounds-vals-p c = omega (arith, (omega (arith, c.requires.values_len)), inside (goal.at.offset_bounds-vals-p c).After-place-p)
+
+pub bounds-vals-p : goal.bounds-vals-p
+bounds-vals-p c = omega (arith, inside (goal.at.bounds-vals-p c).After-place-p)
+
+pub loop-j-preserved : goal.loop-j-preserved
+loop-j-preserved c =
+    (
+      simp length-set c.loop-j.invariant.0,
+      edited_more _ _ _ _ _ _ c.loop-j.invariant.1 nan c.loop-j-test.true (omega (arith, c.requires.values_len)) c.place-p.ensures refl,
+    )
+
+pub returns : goal.returns
+returns c = edited-done _ _ _ _ _ _ c.loop-j.invariant.1 c.loop-j-test.false

@@ -1,0 +1,74 @@
+use Prim.Native.Nat.{◌≤◌, ◌<◌, ◌-◌}
+use mathlib.Core.Path.{◌≡◌}
+use mathlib.Core.List.{List}
+use native.Mathlib.Omega.{arith}
+use borrow.Author.Rules.{rules}
+use lib.ListN.{length, take, drop}
+use Rattle.reorder.specs.Steps.{room_of, ColumnReady}
+use Rattle.reorder.proofs.Turns.{Tables}
+use Rattle.reorder.proofs.Passes.{pass_all, pass_on, pass_done, column-ready, starts-below, ends_inside, long-lent, placing_begin, placing_pass, placing_end}
+use Rattle.reorder.proofs.fill_entries.Goals as goal
+use Rattle.reorder.proofs.fill_entries.Goals.{After-wide-last}
+
+abbrev tables : tie.At-loop invariant-loop decreases-loop → Tables
+tables at = record { next = at.loop-c.next; pr = at.loop-c.pr; pv = at.loop-c.pv; map = at.loop-c.map }
+
+module _ (c : After-wide-last) where
+  taken : c.loop-c.c < length c.args.iperm.now
+  taken = c.loop-c-test.true
+
+  below : c.wide-first.result ≤ c.wide-last.result
+  below = starts-below c.requires.entries_ready c.loop-c.c taken _ c.column-rows.ensures c.wide-first.ensures c.wide-last.ensures
+
+  inside : c.wide-last.result ≤ length c.args.rowval.now
+  inside = ends_inside c.requires.entries_ready c.loop-c.c taken _ c.column-rows.ensures c.wide-first.ensures c.wide-last.ensures
+
+  lent : {A : Type 0} (l : List A) → length c.args.rowval.now ≤ length l → length (take (c.wide-last.result - c.wide-first.result) (drop c.wide-first.result l)) ≡ length c.column-rows.result.now
+  lent = long-lent c.requires.entries_ready c.loop-c.c taken _ c.column-rows.ensures c.wide-first.ensures c.wide-last.ensures
+
+  ready : ColumnReady c.loop-c.c (room_of c.args.pr.now c.args.pv.now) c.column-rows.result.now c.args.iperm.now c.loop-c.next
+  ready = column-ready c.requires.entries_ready _ _ c.loop-c.invariant.1 taken _ c.column-rows.ensures
+
+pub loop-c-init : goal.loop-c-init
+loop-c-init c = (search rules, pass_all c.requires.entries_ready, placing_begin c.requires.entries_ready c.args.nzval.now _)
+
+pub offset_bounds-nzval-first : goal.offset_bounds-nzval-first
+offset_bounds-nzval-first c = omega (arith, below c, inside c, c.requires.nzval_len)
+
+pub slice_bounds-fill_column-count : goal.slice_bounds-fill_column-count
+slice_bounds-fill_column-count c = below c
+
+pub slice_bounds-fill_column-start : goal.slice_bounds-fill_column-start
+slice_bounds-fill_column-start c = below c
+
+pub slice_bounds-fill_column-end : goal.slice_bounds-fill_column-end
+slice_bounds-fill_column-end c = omega (arith, inside c, c.requires.nzval_len)
+
+pub slice_bounds-fill_column-count-in-loop-c : goal.slice_bounds-fill_column-count-in-loop-c
+slice_bounds-fill_column-count-in-loop-c c = below c
+
+pub slice_bounds-fill_column-start-in-loop-c : goal.slice_bounds-fill_column-start-in-loop-c
+slice_bounds-fill_column-start-in-loop-c c = below c
+
+pub slice_bounds-fill_column-end-in-loop-c : goal.slice_bounds-fill_column-end-in-loop-c
+slice_bounds-fill_column-end-in-loop-c c = omega (arith, inside c, c.requires.rowval_in_bounds, c.loop-c.invariant.2.long_map)
+
+pub fill_column-requires : goal.fill_column-requires
+fill_column-requires c =
+    (
+      rw (c.loop-c.invariant.2.long_rows, c.loop-c.invariant.2.long_values) (ready c),
+      (lent c _ (omega (arith, c.requires.nzval_len)), lent c _ (omega (arith, c.requires.rowval_in_bounds, c.loop-c.invariant.2.long_map))),
+    )
+
+pub loop-c-preserved : goal.loop-c-preserved
+loop-c-preserved c =
+    let last = c.fill_column.new.1.1.1.1 in
+    let done = c.fill_column.ensures in (
+      search rules,
+      pass_on c.requires.entries_ready _ _ c.loop-c.invariant.1 (taken c) _ c.column-rows.ensures last.0 done.moved,
+      placing_pass c.requires.entries_ready c.loop-c.c (taken c) _ c.column-rows.ensures c.wide-first.ensures c.wide-last.ensures c.args.nzval.now (tables c) last.0 last.1.0 last.1.1.1.0 last.1.1.0 c.requires.nzval_len (omega (arith, c.requires.rowval_in_bounds, c.loop-c.invariant.2.long_map)) done c.loop-c.invariant.2,
+    )
+
+pub returns : goal.returns
+returns c =
+    placing_end c.requires.entries_ready c.args.nzval.now c.loop-c.c (tables c) _ _ _ _ c.loop-c-test.false c.loop-c.invariant.2 (pass_done c.requires.entries_ready _ _ c.loop-c.invariant.1 c.loop-c-test.false)
