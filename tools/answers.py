@@ -157,10 +157,9 @@ def turn(folder, crate_path, names):
     bs = blocks(text)
     for name, lines in bs:
         sig = " ".join(l for l in lines if not l.startswith("--"))
-        m = re.search(r"^abbrev " + re.escape(name) + r" : tie\.\S+(?: invariant\S* decreases\S*)* → tie\.\S+(?: invariant\S* decreases\S*)* *" + re.escape(name) + r" (\w+) = (\S+)$", sig)
-        if m and re.fullmatch(re.escape(m[1]) + r"(\.before)*|(" + WORD + r" )?.*", m[2]):
+        m = re.search(r"^abbrev " + re.escape(name) + r" : tie\.[^→]+→ tie\.\S+(?: invariant\S* decreases\S*)* +" + re.escape(name) + r" (" + WORD + r") = (.+)$", sig)
+        if m and f.term(m[2] + ".before") == m[1]:
             f.alias[name] = True
-    changed = True
     invariants, answers, places = [], [], set()
     for name, lines in bs:
         comment = [l for l in lines if l.startswith("--")]
@@ -201,12 +200,12 @@ def turn(folder, crate_path, names):
             sep = "\n    " if "\n" in rhs or len(rhs) > 120 else " "
             answers.append("\n".join(comment + ["pub %s : goal.%s" % (new, new)] + middle + ["%s c =%s%s" % (new, sep, rhs)]))
             continue
-        m = re.search(r"\((" + WORD + r") : tie\.(" + WORD + r")(?: invariant\S* decreases[^\s)]*)*\)", body)
+        m = re.search(r"tie\.(" + WORD + r")((?: invariant\S* decreases[^\s)]*)*)", body)
         if m:
-            p = f.place.get(flat(m[2]), m[2])
+            p = f.place.get(flat(m[1]), m[1])
             places.add(p)
             f.helpers[name] = p
-            body = body[: m.start()] + "(%s : %s)" % (m[1], p) + body[m.end():]
+            body = body.replace(m[0], p)
         answers.append("\n".join(comment + [f.term(body)]))
     module = "Rattle.%s.proofs.%s" % (crate_path[0], ".".join(crate_path[1:]))
     if invariants:

@@ -30,10 +30,10 @@ more offset (pos (suc n)) old ne l = refl
 more offset (negsuc n) old ne l = absurd (true≢false l)
 
 pub returns-in-0 : goal.returns-in-0
-returns-in-0 c = kept _ c.args.sign _ c.ranges.sign c.in-0.keys1
+returns-in-0 c = kept _ c.args.sign _ c.ranges.sign c.in-0.in-0-own.keys1
 
 pub returns-in-minus128-to-minus1 : goal.returns-in-minus128-to-minus1
-returns-in-minus128-to-minus1 c = less _ c.args.sign _ (read_back (λ y. lt_z y (pos 0)) w8 c.args.sign c.ranges.sign c.if-sign-lt0.true)
+returns-in-minus128-to-minus1 c = less _ c.args.sign _ (read_back (λ y. lt_z y (pos 0)) w8 c.args.sign c.ranges.sign c.in-minus128-to-minus1.if-sign-lt0-own.true)
 
 pub returns-in-1-to-127 : goal.returns-in-1-to-127
-returns-in-1-to-127 c = more _ c.args.sign _ c.in-0.rest.1 (read_back (λ y. lt_z y (pos 0)) w8 c.args.sign c.ranges.sign c.if-sign-lt0.false)
+returns-in-1-to-127 c = more _ c.args.sign _ c.in-1-to-127.in_default-own.rest.1 (read_back (λ y. lt_z y (pos 0)) w8 c.args.sign c.ranges.sign c.in-1-to-127.if-sign-lt0-own.false)

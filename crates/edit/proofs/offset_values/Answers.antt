@@ -15,7 +15,7 @@ unfolding offsetted
 loop-j-init c = (refl, refl)
 
 pub place-p-requires : goal.place-p-requires
-place-p-requires c = (c.loop-j-test.true, c.requires.editable.indexed c.loop-j.j c.loop-j-test.true)
+place-p-requires c = record { j_in_bounds = c.loop-j-test.true; j_in_bounds_2 = c.requires.editable.indexed c.loop-j.j c.loop-j-test.true }
 
 -- the place that the turn takes is one of vals
 inside : (c : After-place-p) → c.place-p.result < length c.loop-j.vals
@@ -42,7 +42,7 @@ loop-j-preserved c =
     let read = to_z-of_z w8 sign (record { sfits = c.sign-1.given }) in (
       simp length-set c.loop-j.invariant.0,
       edited_more _ _ _ _ _ _ c.loop-j.invariant.1 (pos 0) c.loop-j-test.true (omega (arith, c.requires.signs_len)) c.place-p.ensures
-          (rw read c c.offset_by.ensures),
+          (rw read at c.offset_by.ensures),
     )
 
 pub returns : goal.returns

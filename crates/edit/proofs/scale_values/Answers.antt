@@ -12,7 +12,7 @@ unfolding scaled
 loop-j-init c = (refl, refl)
 
 pub place-p-requires : goal.place-p-requires
-place-p-requires c = (c.loop-j-test.true, c.requires.indexed c.loop-j.j c.loop-j-test.true)
+place-p-requires c = record { j_in_bounds = c.loop-j-test.true; j_in_bounds_2 = c.requires.indexed c.loop-j.j c.loop-j-test.true }
 
 -- the place that the turn takes is one of vals
 inside : (c : After-place-p) → c.place-p.result < length c.loop-j.vals

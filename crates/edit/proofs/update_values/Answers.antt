@@ -13,7 +13,7 @@ unfolding updated
 loop-j-init c = (refl, refl)
 
 pub place-p-requires : goal.place-p-requires
-place-p-requires c = (c.loop-j-test.true, c.requires.editable.indexed c.loop-j.j c.loop-j-test.true)
+place-p-requires c = record { j_in_bounds = c.loop-j-test.true; j_in_bounds_2 = c.requires.editable.indexed c.loop-j.j c.loop-j-test.true }
 
 -- the place that the turn takes is one of vals
 inside : (c : After-place-p) → c.place-p.result < length c.loop-j.vals
@@ -26,7 +26,7 @@ pub bounds-values-j : goal.bounds-values-j
 bounds-values-j c = omega (arith, c.requires.values_len)
 
 pub offset_bounds-vals-p : goal.offset_bounds-vals-p
-offset_bounds-vals-p c = omega (arith, (omega (arith, c.requires.values_len)), inside (goal.at.offset_bounds-vals-p c).After-place-p)
+offset_bounds-vals-p c = omega (arith, c.requires.values_len, inside (goal.at.offset_bounds-vals-p c).After-place-p)
 
 pub bounds-vals-p : goal.bounds-vals-p
 bounds-vals-p c = omega (arith, inside (goal.at.bounds-vals-p c).After-place-p)

@@ -6,7 +6,7 @@ use Rattle.tree.proofs.Ways.{Way, way_none, way_inside, way_done, way_visitable,
 use Rattle.tree.proofs.climb.Goals as goal
 use Rattle.tree.proofs.climb.Goals.{At-loop-work}
 
-abbrev setting : tie.At-loop invariant-loop decreases-loop → Setting
+abbrev setting : At-loop-work → Setting
 setting at = at.requires.0
 
 entered : (at : At-loop-work) → Tables (setting at) (given at.args.work.now at.args.j) at.args.work.now at.args.lnz.now at.args.etree.now

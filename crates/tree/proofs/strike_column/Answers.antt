@@ -5,7 +5,7 @@ use Rattle.tree.proofs.Rows.{Entering, entering_none, entering_start, entering_m
 use Rattle.tree.proofs.strike_column.Goals as goal
 use Rattle.tree.proofs.strike_column.Goals.{After-climb-arg-in-loop-k-2-1, At-loop-k}
 
-abbrev setting : tie.At-loop invariant-loop decreases-loop → Setting
+abbrev setting : At-loop-k → Setting
 setting at = at.requires.0
 
 entering : (at : At-loop-k) → Entering (setting at) at.args.j at.args.rows.now at.loop-k.k at.loop-k.work at.loop-k.lnz at.loop-k.etree
@@ -22,7 +22,7 @@ loop-k-init c = λ s col a. a
 
 pub climb-requires : goal.climb-requires
 climb-requires c =
-    (setting c, started (goal.at.climb-requires c).After-climb-arg-in-loop-k-2-1 (setting c) (entering (goal.at.climb-requires c).At-loop-k) c.requires.1.column)
+    (setting (goal.at.climb-requires c).At-loop-k, started (goal.at.climb-requires c).After-climb-arg-in-loop-k-2-1 (setting (goal.at.climb-requires c).At-loop-k) (entering (goal.at.climb-requires c).At-loop-k) c.requires.1.column)
 
 pub loop-k-preserved : goal.loop-k-preserved
 loop-k-preserved c =
