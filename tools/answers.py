@@ -5,6 +5,7 @@
   python3 tools/answers.py CRATE NAMES [F ..]   at the top: the functions F, or all that have a Proof.antt
 
 An answer that only searches goes, since Rattle searches by itself. What the text does not tell is left to the check."""
+import glob
 import json
 import os
 import re
@@ -48,6 +49,54 @@ def norm(name):
     return re.sub(r"^overflow_", "", flat(re.sub(r"^Need-", "", name)))
 
 
+def clauses():
+    """The names of each function's clauses, by its own name: (requires, ensures)."""
+    out = {}
+    for path in glob.glob("crates/*/src/**/*.rt", recursive=True):
+        text = open(path).read()
+        for m in re.finditer(r"\bfn (\w+)(.*?)\n\s*\{\n", text, re.S):
+            out[m[1]] = [re.findall(r"\b%s (\w+) \{" % kind, m[2]) for kind in ("requires", "ensures")]
+    return out
+
+
+def parts_of(text):
+    """The parts of a tuple, without its parentheses."""
+    out, depth, start = [], 0, 0
+    for i, ch in enumerate(text):
+        if ch in "([{":
+            depth += 1
+        elif ch in ")]}":
+            depth -= 1
+        elif ch == "," and depth == 0:
+            out.append(text[start:i].strip())
+            start = i + 1
+    last = text[start:].strip()
+    return out + ([last] if last else [])
+
+
+def as_record(rhs, names):
+    """The tuple that a term ends in, as a record of the clauses."""
+    if len(names) < 2 or not rhs.rstrip().endswith(")"):
+        return rhs
+    rhs = rhs.rstrip()
+    depth = 0
+    for i in range(len(rhs) - 1, -1, -1):
+        depth += (rhs[i] == ")") - (rhs[i] == "(")
+        if depth == 0:
+            break
+    before = rhs[:i].rstrip()
+    if before and not before.endswith(" in") and not before.endswith("\nin"):
+        return rhs
+    parts = parts_of(rhs[i + 1 : -1])
+    while 1 < len(parts) < len(names) and parts[-1].startswith("("):
+        parts = parts[:-1] + parts_of(parts[-1][1:-1])
+    if len(parts) != len(names):
+        return rhs
+    kept = [(n, x) for n, x in zip(names, parts)]
+    body = "record {\n" + "".join("      %s = %s;\n" % k for k in kept) + "    }"
+    return (before + " " if before else "") + body
+
+
 class Function:
     def __init__(self, names, old_text):
         self.old = old_text
@@ -61,6 +110,11 @@ class Function:
             self.step[flat(old)] = new
         self.place = {flat(p[0]): n for p, n in zip(names["places"], names["places_by_name"])}
         self.needs = names["needs"]
+        self.callee = {}
+        for place in names["places"]:
+            if place[3]:
+                self.callee[place[2][1]] = place[3]
+        self.clauses = clauses()
         self.alias = {}
         self.answers = {}
         self.helpers = {}
@@ -90,8 +144,25 @@ class Function:
             out.append(FIELDS.get(part, part))
         return ".".join([head] + self.clause(out))
 
+    def pick(self, digits, fields):
+        """What a projection of nested pairs picks, and the rest."""
+        for i, field in enumerate(fields):
+            pair = ["1"] * i + (["0"] if i + 1 < len(fields) else [])
+            if digits[: len(pair)] == pair:
+                return [field] + digits[len(pair) :]
+        return digits
+
     def clause(self, parts):
-        """The clause of `requires` that a projection of the older pair is."""
+        """The clause or the argument that a projection of the older pair is."""
+        callee = self.callee.get(parts[0]) if parts else None
+        if callee and len(parts) > 2 and parts[2] in ("0", "1"):
+            if parts[1] in ("new", "auto"):
+                params = self.names["params"].get(callee, [])
+                return parts[:2] + self.pick(parts[2:] + ["0"] if not params else parts[2:], params + [""])
+            if parts[1] == "ensures":
+                names = self.clauses.get(callee.split("::")[-1], [[], []])[1]
+                if len(names) > 1:
+                    return parts[:2] + self.pick(parts[2:], names)
         fields = (self.names["pre"] or {}).get("fields")
         if not fields or len(fields) < 2 or not parts or parts[0] != "requires":
             return parts
@@ -195,6 +266,12 @@ def turn(folder, crate_path, names):
                 rhs = re.sub(r"(?<![\w.'-])" + re.escape(label) + r" " + WORD + r"(?:\.before)*(?![\w'-])", lambda m: "(%s)" % term if rhs.strip() != m[0] else term, rhs)
             f.answers[name] = rhs.strip()
             rhs = f.term(rhs)
+            kind = re.match(r"(.*?)_requires(?:_\d+)?$", norm(m[1]))
+            if kind:
+                rhs = as_record(rhs, f.clauses.get(kind[1], [[]])[0])
+            elif norm(m[1]).startswith("returns"):
+                rhs = as_record(rhs, f.clauses.get(crate_path[-1], [[], []])[1])
+            rhs = re.sub(r"scaled_Fits _ _ \d+ (\(.*?\)|[\w.-]+) \S*\.good\S*$", r"omega (arith, \1)", rhs)
             for h, p in f.helpers.items():
                 rhs = re.sub(r"(?<![\w.'-])" + re.escape(h) + r" c(?![\w.'-])", "%s (goal.at.%s c).%s" % (h, new, p), rhs)
             sep = "\n    " if "\n" in rhs or len(rhs) > 120 else " "

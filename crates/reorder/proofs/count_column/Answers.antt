@@ -1,7 +1,7 @@
 use Prim.Native.Nat.{◌<◌, ◌-◌}
 use mathlib.Core.Path.{◌≡◌, refl, ap, ◌∙◌}
 use native.Mathlib.Omega.{arith}
-use borrow.Author.Rules.{rules, scaled_Fits}
+use borrow.Author.Rules.{rules}
 use lib.ListN.{length, get_or}
 use Rattle.reorder.specs.Reorder.{new_col}
 use Rattle.reorder.proofs.Turns.{key_next, key_room, left_turn, left_done}
@@ -20,7 +20,7 @@ taken : (c : After-wide-k) → c.loop-j.j < length c.args.rows.now
 taken c = c.loop-j-test.true
 
 pub offset_bounds-iperm-r : goal.offset_bounds-iperm-r
-offset_bounds-iperm-r c = scaled_Fits _ _ 4 (row (goal.at.offset_bounds-iperm-r c).After-wide-r) c.good.1.1.0.1
+offset_bounds-iperm-r c = omega (arith, (row (goal.at.offset_bounds-iperm-r c).After-wide-r))
 
 pub bounds-iperm-r : goal.bounds-iperm-r
 bounds-iperm-r c = row (goal.at.bounds-iperm-r c).After-wide-r

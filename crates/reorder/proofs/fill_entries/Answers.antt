@@ -8,9 +8,9 @@ use Rattle.reorder.specs.Steps.{room_of, ColumnReady}
 use Rattle.reorder.proofs.Turns.{Tables}
 use Rattle.reorder.proofs.Passes.{pass_all, pass_on, pass_done, column-ready, starts-below, ends_inside, long-lent, placing_begin, placing_pass, placing_end}
 use Rattle.reorder.proofs.fill_entries.Goals as goal
-use Rattle.reorder.proofs.fill_entries.Goals.{After-wide-last}
+use Rattle.reorder.proofs.fill_entries.Goals.{After-wide-last, At-loop-c}
 
-abbrev tables : tie.At-loop invariant-loop decreases-loop → Tables
+abbrev tables : At-loop-c → Tables
 tables at = record { next = at.loop-c.next; pr = at.loop-c.pr; pv = at.loop-c.pv; map = at.loop-c.map }
 
 module _ (c : After-wide-last) where
@@ -55,10 +55,11 @@ slice_bounds-fill_column-end-in-loop-c c = omega (arith, inside c, c.requires.ro
 
 pub fill_column-requires : goal.fill_column-requires
 fill_column-requires c =
-    (
-      rw (c.loop-c.invariant.2.long_rows, c.loop-c.invariant.2.long_values) (ready c),
-      (lent c _ (omega (arith, c.requires.nzval_len)), lent c _ (omega (arith, c.requires.rowval_in_bounds, c.loop-c.invariant.2.long_map))),
-    )
+    record {
+      column_ready = rw (c.loop-c.invariant.2.long_rows, c.loop-c.invariant.2.long_values) (ready c);
+      vals_len = lent c _ (omega (arith, c.requires.nzval_len));
+      map_len = lent c _ (omega (arith, c.requires.rowval_in_bounds, c.loop-c.invariant.2.long_map));
+    }
 
 pub loop-c-preserved : goal.loop-c-preserved
 loop-c-preserved c =
@@ -66,9 +67,9 @@ loop-c-preserved c =
     let done = c.fill_column.ensures in (
       search rules,
       pass_on c.requires.entries_ready _ _ c.loop-c.invariant.1 (taken c) _ c.column-rows.ensures last.0 done.moved,
-      placing_pass c.requires.entries_ready c.loop-c.c (taken c) _ c.column-rows.ensures c.wide-first.ensures c.wide-last.ensures c.args.nzval.now (tables c) last.0 last.1.0 last.1.1.1.0 last.1.1.0 c.requires.nzval_len (omega (arith, c.requires.rowval_in_bounds, c.loop-c.invariant.2.long_map)) done c.loop-c.invariant.2,
+      placing_pass c.requires.entries_ready c.loop-c.c (taken c) _ c.column-rows.ensures c.wide-first.ensures c.wide-last.ensures c.args.nzval.now (tables (goal.at.loop-c-preserved c).At-loop-c) last.0 last.1.0 last.1.1.1.0 last.1.1.0 c.requires.nzval_len (omega (arith, c.requires.rowval_in_bounds, c.loop-c.invariant.2.long_map)) done c.loop-c.invariant.2,
     )
 
 pub returns : goal.returns
 returns c =
-    placing_end c.requires.entries_ready c.args.nzval.now c.loop-c.c (tables c) _ _ _ _ c.loop-c-test.false c.loop-c.invariant.2 (pass_done c.requires.entries_ready _ _ c.loop-c.invariant.1 c.loop-c-test.false)
+    placing_end c.requires.entries_ready c.args.nzval.now c.loop-c.c (tables (goal.at.returns c).At-loop-c) _ _ _ _ c.loop-c-test.false c.loop-c.invariant.2 (pass_done c.requires.entries_ready _ _ c.loop-c.invariant.1 c.loop-c-test.false)

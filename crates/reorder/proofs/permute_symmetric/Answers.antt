@@ -8,17 +8,19 @@ count_entries-requires c = countable c.requires _ c.fill.ensures
 
 pub accumulate-requires : goal.accumulate-requires
 accumulate-requires c =
-    let R = c.requires in (
-      long₂ R _ c.fill.ensures _ c.count_entries.ensures,
-      (R.room_pointers, small R _ c.fill.ensures _ c.count_entries.ensures),
-    )
+    let R = c.requires in record {
+      n_in_bounds = long₂ R _ c.fill.ensures _ c.count_entries.ensures;
+      n_in_bounds_2 = R.room_pointers;
+      by_index = small R _ c.fill.ensures _ c.count_entries.ensures;
+    }
 
 pub fill_entries-requires : goal.fill_entries-requires
 fill_entries-requires c =
-    let R = c.requires in (
-      fillable R _ c.fill.ensures _ c.count_entries.ensures _ _ c.accumulate.ensures c.copy_starts.ensures,
-      (R.values, R.room_map),
-    )
+    let R = c.requires in record {
+      entries_ready = fillable R _ c.fill.ensures _ c.count_entries.ensures _ _ c.accumulate.ensures c.copy_starts.ensures;
+      nzval_len = R.values;
+      rowval_in_bounds = R.room_map;
+    }
 
 pub returns : goal.returns
 returns c =

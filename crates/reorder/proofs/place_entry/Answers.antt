@@ -4,4 +4,10 @@ use mathlib.Core.Path.{refl}
 use Rattle.reorder.proofs.place_entry.Goals as goal
 
 pub returns : goal.returns
-returns c = (refl, (refl, (rw c.wide-p.ensures, rw c.wide-p.ensures)))
+returns c =
+    record {
+      answer = refl;
+      moved = refl;
+      rows = rw c.wide-p.ensures;
+      values = rw c.wide-p.ensures;
+    }
