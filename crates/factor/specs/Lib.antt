@@ -1,2 +1,1 @@
 pub mod Factor
-pub mod Steps

@@ -1,4 +1,3 @@
 pub mod Figures
 pub mod Once
-pub mod Lists
 pub mod Settled

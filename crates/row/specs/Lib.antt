@@ -1,4 +1,1 @@
 pub mod Row
-pub mod Laid
-pub mod Kernels
-pub mod Steps
