@@ -181,7 +181,7 @@ pub fn permute_symmetric(
     next: &mut [u32],
 )
     requires { Reorderable iperm.now (record { colptr = colptr.now; rowval = rowval.now; nzval = nzval.now }) (record { colptr = pc.old; rowval = pr.old; nzval = pv.old }) map.old next.old }
-    ensures { Reordered iperm.now (record { colptr = colptr.entry.now; rowval = rowval.now; nzval = nzval.now }) (record { colptr = pc.old; rowval = pr.old; nzval = pv.old }) (record { colptr = pc.new; rowval = pr.new; nzval = pv.new }) map.old map.new }
+    ensures { Reordered iperm.now (record { colptr = colptr.now; rowval = rowval.now; nzval = nzval.now }) (record { colptr = pc.old; rowval = pr.old; nzval = pv.old }) (record { colptr = pc.new; rowval = pr.new; nzval = pv.new }) map.old map.new }
 {
     let n = iperm.len();
     fill(next, n, 0);

@@ -54,9 +54,9 @@ loop-j-preserved c =
       map = set c.loop-j.map c.loop-j.j c.place_entry-place.result;
     } in (
       search rules,
-      left_turn c.requires.column_ready _ _ _ (taken (goal.at.loop-j-preserved c).After-wide-k) (key (goal.at.loop-j-preserved c).After-wide-k) c.loop-j.invariant.1 _ done.1.0,
+      left_turn c.requires.column_ready _ _ _ (taken (goal.at.loop-j-preserved c).After-wide-k) (key (goal.at.loop-j-preserved c).After-wide-k) c.loop-j.invariant.1 _ done.moved,
       placing_turn args.c c.loop-j.j c.wide-k.result _ _ _ args.rows.now args.iperm.now args.vals.now (tables (goal.at.loop-j-preserved c).At-loop-j) T' (taken (goal.at.loop-j-preserved c).After-wide-k) c.requires.vals_len
-          (omega (arith, c.requires.map_len, c.loop-j.invariant.2.long_map)) (key (goal.at.loop-j-preserved c).After-wide-k) (new-row (goal.at.loop-j-preserved c).After-min) refl done.0 done.1.0 done.1.1.0 done.1.1.1 refl c.loop-j.invariant.2,
+          (omega (arith, c.requires.map_len, c.loop-j.invariant.2.long_map)) (key (goal.at.loop-j-preserved c).After-wide-k) (new-row (goal.at.loop-j-preserved c).After-min) refl done.answer done.moved done.rows done.values refl c.loop-j.invariant.2,
     )
 
 pub returns : goal.returns

@@ -33,41 +33,41 @@ pub loop-c-init : goal.loop-c-init
 loop-c-init c = (search rules, pass_all c.requires.entries_ready, placing_begin c.requires.entries_ready c.args.nzval.now _)
 
 pub offset_bounds-nzval-first : goal.offset_bounds-nzval-first
-offset_bounds-nzval-first c = omega (arith, below c, inside c, c.requires.nzval_len)
+offset_bounds-nzval-first c = omega (arith, below (goal.at.offset_bounds-nzval-first c).After-wide-last, inside (goal.at.offset_bounds-nzval-first c).After-wide-last, c.requires.nzval_len)
 
 pub slice_bounds-fill_column-count : goal.slice_bounds-fill_column-count
-slice_bounds-fill_column-count c = below c
+slice_bounds-fill_column-count c = below (goal.at.slice_bounds-fill_column-count c).After-wide-last
 
 pub slice_bounds-fill_column-start : goal.slice_bounds-fill_column-start
-slice_bounds-fill_column-start c = below c
+slice_bounds-fill_column-start c = below (goal.at.slice_bounds-fill_column-start c).After-wide-last
 
 pub slice_bounds-fill_column-end : goal.slice_bounds-fill_column-end
-slice_bounds-fill_column-end c = omega (arith, inside c, c.requires.nzval_len)
+slice_bounds-fill_column-end c = omega (arith, inside (goal.at.slice_bounds-fill_column-end c).After-wide-last, c.requires.nzval_len)
 
 pub slice_bounds-fill_column-count-in-loop-c : goal.slice_bounds-fill_column-count-in-loop-c
-slice_bounds-fill_column-count-in-loop-c c = below c
+slice_bounds-fill_column-count-in-loop-c c = below (goal.at.slice_bounds-fill_column-count-in-loop-c c).After-wide-last
 
 pub slice_bounds-fill_column-start-in-loop-c : goal.slice_bounds-fill_column-start-in-loop-c
-slice_bounds-fill_column-start-in-loop-c c = below c
+slice_bounds-fill_column-start-in-loop-c c = below (goal.at.slice_bounds-fill_column-start-in-loop-c c).After-wide-last
 
 pub slice_bounds-fill_column-end-in-loop-c : goal.slice_bounds-fill_column-end-in-loop-c
-slice_bounds-fill_column-end-in-loop-c c = omega (arith, inside c, c.requires.rowval_in_bounds, c.loop-c.invariant.2.long_map)
+slice_bounds-fill_column-end-in-loop-c c = omega (arith, inside (goal.at.slice_bounds-fill_column-end-in-loop-c c).After-wide-last, c.requires.rowval_in_bounds, c.loop-c.invariant.2.long_map)
 
 pub fill_column-requires : goal.fill_column-requires
 fill_column-requires c =
     record {
-      column_ready = rw (c.loop-c.invariant.2.long_rows, c.loop-c.invariant.2.long_values) (ready c);
-      vals_len = lent c _ (omega (arith, c.requires.nzval_len));
-      map_len = lent c _ (omega (arith, c.requires.rowval_in_bounds, c.loop-c.invariant.2.long_map));
+      column_ready = rw (c.loop-c.invariant.2.long_rows, c.loop-c.invariant.2.long_values) (ready (goal.at.fill_column-requires c).After-wide-last);
+      vals_len = lent (goal.at.fill_column-requires c).After-wide-last _ (omega (arith, c.requires.nzval_len));
+      map_len = lent (goal.at.fill_column-requires c).After-wide-last _ (omega (arith, c.requires.rowval_in_bounds, c.loop-c.invariant.2.long_map));
     }
 
 pub loop-c-preserved : goal.loop-c-preserved
 loop-c-preserved c =
-    let last = c.fill_column.new.1.1.1.1 in
+    let last = c.fill_column.new in
     let done = c.fill_column.ensures in (
       search rules,
-      pass_on c.requires.entries_ready _ _ c.loop-c.invariant.1 (taken c) _ c.column-rows.ensures last.0 done.moved,
-      placing_pass c.requires.entries_ready c.loop-c.c (taken c) _ c.column-rows.ensures c.wide-first.ensures c.wide-last.ensures c.args.nzval.now (tables (goal.at.loop-c-preserved c).At-loop-c) last.0 last.1.0 last.1.1.1.0 last.1.1.0 c.requires.nzval_len (omega (arith, c.requires.rowval_in_bounds, c.loop-c.invariant.2.long_map)) done c.loop-c.invariant.2,
+      pass_on c.requires.entries_ready _ _ c.loop-c.invariant.1 (taken (goal.at.loop-c-preserved c).After-wide-last) _ c.column-rows.ensures last.next done.moved,
+      placing_pass c.requires.entries_ready c.loop-c.c (taken (goal.at.loop-c-preserved c).After-wide-last) _ c.column-rows.ensures c.wide-first.ensures c.wide-last.ensures c.args.nzval.now (tables (goal.at.loop-c-preserved c).At-loop-c) last.next last.pr last.map last.pv c.requires.nzval_len (omega (arith, c.requires.rowval_in_bounds, c.loop-c.invariant.2.long_map)) done c.loop-c.invariant.2,
     )
 
 pub returns : goal.returns
