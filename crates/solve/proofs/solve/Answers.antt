@@ -13,13 +13,13 @@ size-part : (s : Start) → length (take (length s.args.perm.now) s.args.x.now) 
 size-part s = length-take-le _ _ s.requires.room
 
 size-permuted : (c : After-permute) → length c.permute.new.x ≡ length c.args.perm.now
-size-permuted c = c.permute.auto.x ∙ size-part c
+size-permuted c = c.permute.auto.x ∙ length-take-le _ _ c.requires.room
 
 size-lsolved : (c : After-lsolve) → length c.lsolve.new.x ≡ length c.args.perm.now
-size-lsolved c = c.lsolve.auto.x ∙ size-permuted c
+size-lsolved c = c.lsolve.auto.x ∙ c.permute.auto.x ∙ length-take-le _ _ c.requires.room
 
 size-dltsolved : (c : After-dltsolve) → length c.dltsolve.new.x ≡ length c.args.perm.now
-size-dltsolved c = c.dltsolve.auto.x ∙ size-lsolved c
+size-dltsolved c = c.dltsolve.auto.x ∙ c.lsolve.auto.x ∙ c.permute.auto.x ∙ length-take-le _ _ c.requires.room
 
 pub slice_bounds-y-end-2 : goal.slice_bounds-y-end-2
 slice_bounds-y-end-2 c = sym (size-part (goal.at.slice_bounds-y-end-2 c).Start)

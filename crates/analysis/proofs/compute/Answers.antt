@@ -1,0 +1,41 @@
+-- `analysis::compute` meets its contract: each call asks what the laws of the steps give, and the last of them puts the tables together.
+-- Assumes nothing.
+use mathlib.Core.Path.{sym}
+use native.Mathlib.Omega.{arith}
+use lib.Seq.{length-take-le}
+use Rattle.analysis.proofs.Tables.{reorderable, signs_fit, upper, computed}
+use Rattle.analysis.proofs.compute.Goals as goal
+
+pub permute_symmetric-requires : goal.permute_symmetric-requires
+permute_symmetric-requires c = reorderable _ _ _ _ _ _ _ c.requires
+
+pub slice_bounds-etree-end : goal.slice_bounds-etree-end
+slice_bounds-etree-end c = omega (arith, c.permute_symmetric.auto.pc, c.requires.room_pointers)
+
+pub slice_bounds-etree-end-2 : goal.slice_bounds-etree-end-2
+slice_bounds-etree-end-2 c = sym (length-take-le _ _ ((omega (arith, c.permute_symmetric.auto.pc, c.requires.room_pointers))))
+
+pub slice_bounds-etree-end-3 : goal.slice_bounds-etree-end-3
+slice_bounds-etree-end-3 c = omega (arith, c.permute_symmetric.auto.pr, c.requires.room_rows)
+
+pub slice_bounds-etree-end-4 : goal.slice_bounds-etree-end-4
+slice_bounds-etree-end-4 c = sym (length-take-le _ _ ((omega (arith, c.permute_symmetric.auto.pr, c.requires.room_rows))))
+
+pub etree-requires : goal.etree-requires
+etree-requires c = upper _ _ _ _ _ _ _ c.requires _ _ c.permute_symmetric.ensures
+
+pub permuted_signs-requires : goal.permuted_signs-requires
+permuted_signs-requires c = signs_fit _ _ _ _ _ _ _ c.requires
+
+pub slice_bounds-sum-end : goal.slice_bounds-sum-end
+slice_bounds-sum-end c = omega (arith, c.etree.auto.lnz, c.requires.room_counts)
+
+pub slice_bounds-sum-end-2 : goal.slice_bounds-sum-end-2
+slice_bounds-sum-end-2 c = sym (length-take-le _ _ ((omega (arith, c.etree.auto.lnz, c.requires.room_counts))))
+
+pub sum-requires : goal.sum-requires
+sum-requires c = omega (arith, (sym (length-take-le _ _ ((omega (arith, c.etree.auto.lnz, c.requires.room_counts))))), c.requires.small)
+
+pub returns : goal.returns
+returns c =
+    computed _ _ _ _ _ _ _ c.requires _ _ c.permute_symmetric.ensures _ _ c.etree.ensures _ _ c.permuted_signs.ensures c.sum.ensures
