@@ -1,6 +1,8 @@
 -- `analysis::compute` meets its contract: each call asks what the laws of the steps give, and the last of them puts the tables together.
 -- Assumes nothing.
 use mathlib.Core.Path.{sym}
+use Prim.Native.Nat.{◌≤◌}
+use lib.ListN.{length}
 use native.Mathlib.Omega.{arith}
 use lib.Seq.{length-take-le}
 use Rattle.analysis.proofs.Tables.{reorderable, signs_fit, upper, computed}
@@ -31,10 +33,12 @@ pub slice_bounds-sum-end : goal.slice_bounds-sum-end
 slice_bounds-sum-end c = omega (arith, c.etree.auto.lnz, c.requires.room_counts)
 
 pub slice_bounds-sum-end-2 : goal.slice_bounds-sum-end-2
-slice_bounds-sum-end-2 c = sym (length-take-le _ _ ((omega (arith, c.etree.auto.lnz, c.requires.room_counts))))
+slice_bounds-sum-end-2 c = sym (length-take-le _ _ (omega (arith, c.etree.auto.lnz, c.requires.room_counts)))
 
 pub sum-requires : goal.sum-requires
-sum-requires c = omega (arith, (sym (length-take-le _ _ ((omega (arith, c.etree.auto.lnz, c.requires.room_counts))))), c.requires.small)
+sum-requires c =
+    let room : length c.args.perm.now ≤ length c.etree.new.lnz = omega (arith, c.etree.auto.lnz, c.requires.room_counts) in
+    omega (arith, length-take-le _ _ room, c.requires.small)
 
 pub returns : goal.returns
 returns c =

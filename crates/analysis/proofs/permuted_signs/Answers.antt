@@ -33,10 +33,10 @@ pub returns-then-signs-eq0 : goal.returns-then-signs-eq0
 returns-then-signs-eq0 c =
     let a = c.args in
     let p = a.perm.now in
-    c.plus_signs.ensures ∙ ap (λ (l : List ℤ). over l a.dsigns-1.now) (none (length p) p a.signs.now c.if-signs-eq0.true)
+    c.plus_signs.ensures ∙ ap (λ (l : List ℤ). over l a.dsigns.now) (none (length p) p a.signs.now c.if-signs-eq0.true)
 
 pub returns-else-signs-eq0 : goal.returns-else-signs-eq0
 returns-else-signs-eq0 c =
     let a = c.args in
     let p = a.perm.now in
-    c.permute_signs.ensures ∙ ap (λ (l : List ℤ). over l a.dsigns-1.now) (some (length p) p a.signs.now c.if-signs-eq0.false)
+    c.permute_signs.ensures ∙ ap (λ (l : List ℤ). over l a.dsigns.now) (some (length p) p a.signs.now c.if-signs-eq0.false)
