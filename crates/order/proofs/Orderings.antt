@@ -1,7 +1,7 @@
 -- Laws of orderings: what being one says of each number, where a number first stands, and lists sent through an ordering. Assumes nothing.
 use Prim.Native.Nat.{ℕ, zero, suc, ◌+◌, ◌^◌, ◌<◌, ◌≤◌}
 use mathlib.Core.Path.{◌≡◌, refl, sym, ap, subst, ◌∙◌}
-use mathlib.Core.Bool.{true, false, not}
+use mathlib.Core.Bool.{true, false}
 use mathlib.Core.List.{List, [], ◌∷◌, map}
 use native.Mathlib.Numerals.{add-one}
 use native.Mathlib.Omega.{arith}
@@ -10,10 +10,10 @@ use borrow.Author.Tests.{eq-eqb, ne_eqb, eqb-true}
 use lib.Dec.{eqb}
 use lib.ListN.{length, get_or, take, drop, set, replicate, length-map, length-set, length-replicate, get_or-replicate, take-append-drop}
 use lib.Seq.{take-length, length-take-le, get_or-take, get_or-set_same, get_or-set_other, drop-set-lt, ext_get_or}
-use Rattle.desk.specs.Lists.{upto, all, tally, over}
+use Rattle.desk.specs.Lists.{upto, tally, over}
 use Rattle.desk.proofs.Both.{is_false}
 use Rattle.desk.proofs.Upto.{get_or-upto, length-upto, all-upto, each-upto}
-use Rattle.desk.proofs.Tally.{tally-none, tally-here, tally-past, tally_split, tally_suc, below, below_all, below_missing, below_once, each_once}
+use Rattle.desk.proofs.Tally.{tally-none, tally-here, tally-past, tally_split, tally_suc, below_all, below_missing, below_once, each_once}
 use Rattle.desk.proofs.Over.{front, front_more, front_length, front_all, get_d_over}
 use Rattle.order.specs.Order.{is_ordering, place_of, inverse, permuted, ipermuted}
 use Rattle.order.specs.Kernels.{Fitting}

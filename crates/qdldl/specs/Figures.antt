@@ -1,5 +1,5 @@
 -- Document 01, "Figures to check at the counter": those marked [P], as one table. Assumes nothing.
-use Rattle.std.specs.Prelude.{ℕ, List, [], ◌∷◌, map, pos, length, replicate}
+use Rattle.std.specs.Prelude.{ℕ, List, [], ◌∷◌, pos, length, replicate}
 use Rattle.pivot.specs.Pivots.{one}
 use Rattle.csc.specs.Csc.{Csc}
 use Rattle.order.specs.Order.{inverse}

@@ -10,7 +10,7 @@ use lib.Seq.{get_or-take, length-take-le}
 use Rattle.desk.specs.Lists.{sums, over}
 use Rattle.desk.proofs.Tally.{below, below_suc, below_le}
 use Rattle.csc.specs.Csc.{Csc}
-use Rattle.reorder.specs.Reorder.{new_col, new_row, new_cols, new_rows, starts, places, reordered, map_of}
+use Rattle.reorder.specs.Reorder.{new_col, new_row, new_cols, new_rows, starts, reordered, map_of}
 use Rattle.reorder.specs.Kernels.{Reorderable, Reordered}
 use Rattle.reorder.specs.Steps.{advanced, widest, room_of, EntriesReady, Filled}
 use Rattle.reorder.proofs.Formed.{Formed, formed, length-entries, each-entry}

@@ -3,19 +3,18 @@
 use Prim.Native.Nat.{ℕ, ◌≤◌}
 use mathlib.Core.Path.{◌≡◌, refl, sym, ap, ◌∙◌}
 use mathlib.Core.Bool.{not}
-use mathlib.Core.List.{List, [], ◌∷◌}
+use mathlib.Core.List.{List, []}
 use native.Mathlib.Omega.{arith}
 use borrow.Author.Tests.{eq-eqb, ne_eqb}
-use lib.ListN.{length, drop}
-use Rattle.desk.specs.Desk.{Line, first}
+use lib.ListN.{length}
+use Rattle.desk.specs.Desk.{first}
 use Rattle.desk.specs.declared.Refusal.{Refusal}
 use Rattle.desk.specs.declared.Verdict.TheVariants.{Accepted, Refused}
 use Rattle.desk.proofs.Both.{good_size}
 use Rattle.desk.proofs.First.{passed_over, given, refused_not_accepted}
-use Rattle.csc.specs.Csc.{matrix}
-use Rattle.analysis.specs.Analysis.{AnalysisLent, analysis_lent, written, analysis_refusals, bad_lengths}
+use Rattle.analysis.specs.Analysis.{AnalysisLent, analysis_refusals, bad_lengths}
 use Rattle.analysis.specs.Steps.{Judged}
-use Rattle.analysis.proofs.Lengths.{Lengths, good_lengths}
+use Rattle.analysis.proofs.Lengths.{good_lengths}
 use Rattle.analysis.proofs.judge.Goals as goal
 use Rattle.analysis.proofs.judge.Goals.{Else-bad_size}
 

@@ -1,6 +1,5 @@
 -- `csc::column` meets its contract: the part that is lent, by the laws of a column at its two pointers, and nothing where one of them
 -- does not serve. Assumes nothing.
-use mathlib.Core.Logic.{⊎_elim}
 use native.Mathlib.Omega.{arith}
 use borrow.Author.Rules.{rules}
 use Rattle.csc.proofs.Columns.{column_part, column_last, column_falls, column-past}

@@ -1,4 +1,3 @@
-use Prim.Native.Nat.{◌-◌}
 use native.Mathlib.Nat.{sub-zero}
 use borrow.Author.Tests.{eq-eqb, ne_eqb}
 use Rattle.desk.proofs.Any.{below_found, below_passed, below-done}

@@ -1,4 +1,4 @@
-use Prim.Native.Nat.{ℕ, ◌+◌, ◌-◌}
+use Prim.Native.Nat.{ℕ, ◌+◌}
 use mathlib.Core.Bool.{Bool}
 use mathlib.Core.List.{List}
 use mathlib.Core.Path.{◌≡◌, sym}
@@ -7,7 +7,7 @@ use native.Mathlib.Numerals.{add-one}
 use lib.Dec.{leb, ltb}
 use Rattle.desk.specs.Lists.{any}
 use Rattle.desk.proofs.Any.{below_found, below_passed, below-done}
-use Rattle.csc.specs.Csc.{column, not_upper}
+use Rattle.csc.specs.Csc.{not_upper}
 use Rattle.csc.proofs.not_upper_triangular.Goals as goal
 
 -- a call's answer, of the part that it was lent, is the test of the column

@@ -1,4 +1,3 @@
-use Prim.Native.Nat.{◌-◌}
 use borrow.Author.Tests.{le-leb, lt-leb}
 use Rattle.desk.proofs.Any.{list_found, list_passed, list_done}
 use Rattle.csc.proofs.reaches.Goals as goal

@@ -1,10 +1,10 @@
-use Prim.Native.Nat.{ℕ, ◌-◌}
+use Prim.Native.Nat.{ℕ}
 use mathlib.Core.Path.{◌≡◌}
 use mathlib.Core.Bool.{Bool, not}
 use mathlib.Core.List.{List}
 use native.Mathlib.Nat.{sub-zero}
 use Rattle.desk.proofs.Any.{below_found, below_passed, below-done}
-use Rattle.csc.specs.Csc.{column, rises, unsorted_column}
+use Rattle.csc.specs.Csc.{rises, unsorted_column}
 use Rattle.csc.proofs.unsorted_column.Goals as goal
 
 -- a call's answer, of the part that it was lent, is the test of the column

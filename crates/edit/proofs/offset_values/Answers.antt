@@ -1,11 +1,11 @@
-use Prim.Native.Nat.{◌<◌, ◌-◌}
+use Prim.Native.Nat.{◌<◌}
 use mathlib.Core.Path.{refl}
 use native.Mathlib.Omega.{arith}
 use lib.IntN.{pos}
 use lib.ListN.{length, get_or, length-set}
 use mir.Syntax.{w8}
 use mir.ValLaws.{to_z-of_z}
-use Rattle.edit.specs.Edit.{offset_by, offset as offsetted}
+use Rattle.edit.specs.Edit.{offset as offsetted}
 use Rattle.edit.proofs.Edited.{edited-inside, edited_more, edited-done}
 use Rattle.edit.proofs.offset_values.Goals as goal
 use Rattle.edit.proofs.offset_values.Goals.{After-place-p}

@@ -1,4 +1,4 @@
-use Prim.Native.Nat.{◌<◌, ◌-◌}
+use Prim.Native.Nat.{◌<◌}
 use mathlib.Core.Path.{refl}
 use native.Mathlib.Omega.{arith}
 use lib.ListN.{length, length-set}
@@ -31,11 +31,10 @@ pub bounds-vals-p-in-loop-j : goal.bounds-vals-p-in-loop-j
 bounds-vals-p-in-loop-j c = omega (arith, inside (goal.at.bounds-vals-p-in-loop-j c).After-place-p)
 
 pub loop-j-preserved : goal.loop-j-preserved
-loop-j-preserved c =
-    (
-      simp length-set c.loop-j.invariant.0,
-      edited_more _ _ _ _ _ _ c.loop-j.invariant.1 0 c.loop-j-test.true c.loop-j-test.true c.place-p.ensures refl,
-    )
+loop-j-preserved c = (
+  simp length-set c.loop-j.invariant.0,
+  edited_more _ _ _ _ _ _ c.loop-j.invariant.1 0 c.loop-j-test.true c.loop-j-test.true c.place-p.ensures refl,
+)
 
 pub returns : goal.returns
 returns c = edited-done _ _ _ _ _ _ c.loop-j.invariant.1 c.loop-j-test.false

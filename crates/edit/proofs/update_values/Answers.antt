@@ -1,4 +1,4 @@
-use Prim.Native.Nat.{◌<◌, ◌-◌}
+use Prim.Native.Nat.{◌<◌}
 use mathlib.Core.Path.{refl}
 use native.Mathlib.Omega.{arith}
 use lib.Ieee.{nan}
@@ -32,11 +32,10 @@ pub bounds-vals-p : goal.bounds-vals-p
 bounds-vals-p c = omega (arith, inside (goal.at.bounds-vals-p c).After-place-p)
 
 pub loop-j-preserved : goal.loop-j-preserved
-loop-j-preserved c =
-    (
-      simp length-set c.loop-j.invariant.0,
-      edited_more _ _ _ _ _ _ c.loop-j.invariant.1 nan c.loop-j-test.true (omega (arith, c.requires.values_len)) c.place-p.ensures refl,
-    )
+loop-j-preserved c = (
+  simp length-set c.loop-j.invariant.0,
+  edited_more _ _ _ _ _ _ c.loop-j.invariant.1 nan c.loop-j-test.true (omega (arith, c.requires.values_len)) c.place-p.ensures refl,
+)
 
 pub returns : goal.returns
 returns c = edited-done _ _ _ _ _ _ c.loop-j.invariant.1 c.loop-j-test.false

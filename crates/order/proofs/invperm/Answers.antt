@@ -1,4 +1,4 @@
-use Prim.Native.Nat.{◌<◌, ◌-◌}
+use Prim.Native.Nat.{◌<◌}
 use mathlib.Core.Path.{◌≡◌, sym, ap, ◌∙◌}
 use mathlib.Core.Bool.{false≢true}
 use native.Mathlib.Omega.{arith}
@@ -53,11 +53,10 @@ pub bounds-iperm-j-in-loop-i : goal.bounds-iperm-j-in-loop-i
 bounds-iperm-j-in-loop-i c = inside (goal.at.bounds-iperm-j-in-loop-i c).Else-n-j
 
 pub loop-i-preserved : goal.loop-i-preserved
-loop-i-preserved c =
-    (
-      omega (arith, c.loop-i-test.true),
-      inverting_more _ _ _ _ c.requires.perm_len_bound c.loop-i-test.true c.wide-j.ensures c.if-n-j.false c.loop-i.invariant.1 (omega (arith, size (goal.at.loop-i-preserved c).At-loop-i, c.requires.perm_in_bounds)) c.if-iperm-j.false,
-    )
+loop-i-preserved c = (
+  omega (arith, c.loop-i-test.true),
+  inverting_more _ _ _ _ c.requires.perm_len_bound c.loop-i-test.true c.wide-j.ensures c.if-n-j.false c.loop-i.invariant.1 (omega (arith, size (goal.at.loop-i-preserved c).At-loop-i, c.requires.perm_in_bounds)) c.if-iperm-j.false,
+)
 
 pub shape_of-iperm : goal.shape_of-iperm
 shape_of-iperm c = size (goal.at.shape_of-iperm c).At-loop-i

@@ -1,4 +1,3 @@
-use Prim.Native.Nat.{◌-◌}
 use borrow.Author.Rules.{rules}
 use Rattle.reorder.proofs.Passes.{pass_all, pass_on, pass_done, column-ready}
 use Rattle.reorder.proofs.count_entries.Goals as goal

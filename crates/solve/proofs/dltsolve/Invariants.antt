@@ -1,6 +1,6 @@
 -- `solve::dltsolve` meets its contract. The invariant: what is left of the columns gives what all of them do, and x keeps its length.
 -- The measure is how many columns are left. Assumes nothing.
-use Prim.Native.Nat.{◌≤◌, ◌-◌}
+use Prim.Native.Nat.{◌≤◌}
 use mathlib.Core.Path.{◌≡◌}
 use mathlib.Core.List.{reverse}
 use lib.ListN.{length}

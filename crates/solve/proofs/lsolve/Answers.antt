@@ -1,4 +1,3 @@
-use Prim.Native.Nat.{◌-◌}
 use mathlib.Core.Path.{refl, ◌∙◌}
 use native.Mathlib.Nat.{sub-zero}
 use native.Mathlib.Omega.{arith}
@@ -48,11 +47,10 @@ scatter-requires c =
     }
 
 pub loop-i-preserved : goal.loop-i-preserved
-loop-i-preserved c =
-    (
-      c.scatter.auto.x ∙ c.loop-i.invariant.0,
-      lsolved_more _ _ _ _ _ _ (omega arith) (column (goal.at.loop-i-preserved c).After-wide-e).rows_are (column (goal.at.loop-i-preserved c).After-wide-e).vals_are c.scatter.ensures ∙ c.loop-i.invariant.1,
-    )
+loop-i-preserved c = (
+  c.scatter.auto.x ∙ c.loop-i.invariant.0,
+  lsolved_more _ _ _ _ _ _ (omega arith) (column (goal.at.loop-i-preserved c).After-wide-e).rows_are (column (goal.at.loop-i-preserved c).After-wide-e).vals_are c.scatter.ensures ∙ c.loop-i.invariant.1,
+)
 
 pub returns : goal.returns
 returns c = lsolved-done _ _ _ _ _ _ c.loop-i-test.false ∙ c.loop-i.invariant.1

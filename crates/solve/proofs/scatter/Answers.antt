@@ -1,4 +1,4 @@
-use Prim.Native.Nat.{◌<◌, ◌-◌}
+use Prim.Native.Nat.{◌<◌}
 use mathlib.Core.Path.{refl, ◌∙◌}
 use native.Mathlib.Omega.{arith}
 use lib.ListN.{length, length-set}
@@ -30,11 +30,10 @@ pub bounds-x-r-in-loop-j : goal.bounds-x-r-in-loop-j
 bounds-x-r-in-loop-j c = inside (goal.at.bounds-x-r-in-loop-j c).After-wide-r
 
 pub loop-j-preserved : goal.loop-j-preserved
-loop-j-preserved c =
-    (
-      simp length-set c.loop-j.invariant.0,
-      scattered_more _ _ _ c.loop-j-test.true (omega (arith, c.requires.rows_len)) c.wide-r.ensures _ _ ∙ c.loop-j.invariant.1,
-    )
+loop-j-preserved c = (
+  simp length-set c.loop-j.invariant.0,
+  scattered_more _ _ _ c.loop-j-test.true (omega (arith, c.requires.rows_len)) c.wide-r.ensures _ _ ∙ c.loop-j.invariant.1,
+)
 
 pub returns : goal.returns
 returns c = scattered-done _ _ _ c.loop-j-test.false _ _ ∙ c.loop-j.invariant.1

@@ -1,4 +1,3 @@
-use Prim.Native.Nat.{◌-◌}
 use mathlib.Core.Path.{sym, ◌∙◌}
 use Rattle.tree.specs.Marks.{Setting, Start, Column}
 use Rattle.tree.proofs.Rows.{Entering, entering_none, entering_start, entering_more, entering_done}

@@ -1,6 +1,6 @@
 -- `qdldl::Status::analyse` meets its contract: a refusal of the verdict is the answer, and where there is none the tables are computed.
 -- Assumes nothing.
-use mathlib.Core.Path.{◌≡◌, refl, sym, ◌∙◌}
+use mathlib.Core.Path.{◌≡◌, refl, sym}
 use native.Mathlib.Omega.{arith}
 use mathlib.Core.List.{[], ◌∷◌}
 use lib.Seq.{length-take-le}
