@@ -1,13 +1,14 @@
 -- Document 01, piece 5: the whole factor, numeric and logical, and when a factor's tables are spoiled. Assumes nothing.
-use Rattle.std.specs.Prelude.{ℕ, zero, suc, ◌+◌, ◌-◌, Bool, true, false, cond, not, ◌&&◌, ◌||◌, List, [], ◌∷◌, ◌++◌, map, eqb, ℤ, pos, Float, length, get_or, replicate}
+use Rattle.std.specs.Prelude.{ℕ, zero, suc, ◌-◌, Bool, true, false, cond, not, ◌&&◌, ◌||◌, List, [], ◌∷◌, ◌++◌, map, eqb, ℤ, pos, Float, length, get_or, replicate}
 use Rattle.std.specs.Float.{nan}
-use Rattle.std.proofs.lemmas.List.Edits.{sets}
 use Rattle.desk.specs.Lists.{from, over}
 use Rattle.csc.specs.Csc.{Csc, column, bad_pointers, not_upper}
 use Rattle.tree.specs.Strike.{entry, parents, counts, rows_of_l, pointers_of_l}
 use Rattle.pivot.specs.declared.Regularisation.{Regularisation}
 use Rattle.pivot.specs.Pivots.{pivot_of, is_zero, is_positive, +0, one}
+use Rattle.row.specs.Laid.{laid}
 use Rattle.row.specs.Row.{Row, row_of, diagonal}
+use Rattle.row.specs.Steps.{plus}
 
 -- the factor after its first rows: for each column of L its rows and values, the pivots, their reciprocals, and the totals
 pub record Work : Type 0 where
@@ -27,9 +28,6 @@ unfoldable pub row_at : ℕ → Csc → List ℕ → ℕ → Work → Row
 row_at n A etree zero w = record { y = []; d = get_or A.nzval 0 nan; rows = w.rows; vals = w.vals }
 row_at n A etree (suc j) w =
     row_of n (suc j) etree w.dinv (column A.colptr A.rowval (suc j)) (column A.colptr A.nzval (suc j)) w.rows w.vals
-
-abbrev pub plus : ℕ → Bool → ℕ
-plus k b = cond b (k + 1) k
 
 -- the pivot of row k: "Zero refuses; above zero adds one to inertia"; what stays of D and Dinv where it is zero
 unfoldable pub pivoted : Regularisation → ℤ → Row → Work → Work
@@ -58,12 +56,6 @@ pub record Tables : Type 0 where
   pub lx : List Float
   pub d : List Float
   pub dinv : List Float
-
--- each column's list at its pointer, all other places kept
-unfoldable pub laid : {A : Type 0} → List ℕ → List (List A) → List A → List A
-laid [] cols old = old
-laid (p ∷ ps) [] old = old
-laid (p ∷ ps) (col ∷ cols) old = laid ps cols (sets old p col)
 
 -- The tables after a numeric factor. Where it stopped at row k: "L's pointers are complete; entries of rows 0..k are stored, all
 -- other places of L kept; D holds pivots before k, the zero at k, +0 after; Dinv is new before k and kept from k on."

@@ -1,1 +1,2 @@
 pub mod Factor
+pub mod Steps

@@ -4,7 +4,7 @@
 ghost use Rattle.std.specs.Prelude.{◌≡◌};
 ghost use Rattle.pivot.specs.Pivots.{made, pivot_of, is_zero, is_positive};
 
-#[derive(Drop)]
+#[derive(Clone, Copy)]
 pub enum Regularisation {
     Off,
     On { eps: f64, delta: f64 },

@@ -1,3 +1,4 @@
 pub mod Figures
 pub mod Once
+pub mod Lists
 pub mod Settled

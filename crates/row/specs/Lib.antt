@@ -1,1 +1,4 @@
 pub mod Row
+pub mod Laid
+pub mod Kernels
+pub mod Steps

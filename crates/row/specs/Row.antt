@@ -2,6 +2,7 @@
 use Rattle.std.specs.Prelude.{ℕ, zero, suc, cond, not, ◌&&◌, List, [], ◌∷◌, ◌++◌, ltb, eqb, Float, get_or, set, replicate}
 use Rattle.std.specs.Float.{nan}
 use Rattle.desk.specs.Lists.{any}
+use Rattle.csc.specs.Csc.{Csc, column}
 use Rattle.tree.specs.Strike.{none}
 use Rattle.pivot.specs.Pivots.{◌⊖◌, ◌⊗◌, +0}
 
@@ -59,10 +60,17 @@ eliminate_all k dinv (c ∷ cs) w = eliminate_all k dinv cs (eliminate k dinv c 
 
 -- row k, from column k's rows and values: "For k from 1, y starts as zeros and D[k] as +0."
 unfoldable pub row_of : ℕ → ℕ → List ℕ → List Float → List ℕ → List Float → List (List ℕ) → List (List Float) → Row
-row_of n k etree dinv colRows colVals rows vals =
-    eliminate_all k dinv (visits etree k colRows []) (record {
-      y = spread k colRows colVals (replicate n +0);
-      d = diagonal k colRows colVals +0;
+row_of n k etree dinv col_rows col_vals rows vals =
+    eliminate_all k dinv (visits etree k col_rows []) (record {
+      y = spread k col_rows col_vals (replicate n +0);
+      d = diagonal k col_rows col_vals +0;
       rows = rows;
       vals = vals;
     })
+
+-- row k of a permuted matrix, after the reciprocals of the rows before it: "Pivot 0 starts from the first stored value of the permuted
+-- matrix. For k from 1 .." the row
+unfoldable pub row_of_matrix : ℕ → Csc → List ℕ → ℕ → List Float → List (List ℕ) → List (List Float) → Row
+row_of_matrix n A etree zero dinv rows vals = record { y = []; d = get_or A.nzval 0 nan; rows = rows; vals = vals }
+row_of_matrix n A etree (suc j) dinv rows vals =
+    row_of n (suc j) etree dinv (column A.colptr A.rowval (suc j)) (column A.colptr A.nzval (suc j)) rows vals

@@ -1,0 +1,12 @@
+-- `factor::same` meets its contract. The invariant: the tables agree at each place passed.
+-- The measure is how many places are left. Assumes nothing.
+use Prim.Native.Nat.{ℕ, ◌<◌, ◌-◌}
+use mathlib.Core.Path.{◌≡◌}
+use lib.ListN.{length, get_or}
+use Rattle.factor.proofs.same.Given as goal
+
+abbrev pub invariant-loop-i : goal.invariant-loop-i
+invariant-loop-i l = (k : ℕ) → k < l.i → get_or l.a k 0 ≡ get_or l.b k 0
+
+abbrev pub decreases-loop-i : goal.decreases-loop-i
+decreases-loop-i l = length l.a - l.i

@@ -1,0 +1,16 @@
+pub mod Members
+pub mod Paths
+pub mod Order
+pub mod Clearing
+pub mod Shape
+pub mod Along
+pub mod Turns
+pub mod Laid
+pub mod Full
+pub mod OfL
+pub mod Middle
+pub mod Walk
+pub mod Reaches
+pub mod Eliminates
+pub mod Lists
+pub mod Rows

@@ -1,0 +1,9 @@
+-- `row::first_or` meets its contract, by its one test. Assumes nothing.
+use borrow.Author.Tests.{eq-eqb, ne_eqb}
+use Rattle.row.proofs.first_or.Goals as goal
+
+pub returns-then-k-eq0 : goal.returns-then-k-eq0
+returns-then-k-eq0 c = rw (eq-eqb _ _ c.if-k-eq0.true)
+
+pub returns : goal.returns
+returns c = rw (ne_eqb _ _ c.if-k-eq0.false)
