@@ -3,9 +3,16 @@
 
 use qdldl::{Answer, Status};
 use say::{numbers, text};
+use std::io;
 
 // Analyses the matrix of three pictures in the order given, and says what came of it.
-fn analyse(colptr: &[u32], rowval: &[u32], nzval: &[f64], perm: &[u32]) {
+fn analyse(
+    rt: &impl Print,
+    colptr: &[u32],
+    rowval: &[u32],
+    nzval: &[f64],
+    perm: &[u32],
+) -> io::Result<()> {
     let mut pc = [0u32; 4];
     let mut pr = [0u32; 5];
     let mut pv = [0f64; 5];
@@ -38,45 +45,51 @@ fn analyse(colptr: &[u32], rowval: &[u32], nzval: &[f64], perm: &[u32]) {
     );
     match answer {
         Answer::Refused(refusal, _) => {
-            text(b"  ");
-            say::refusal(refusal);
+            text(rt, b"  ")?;
+            say::refusal(rt, refusal)
         }
         Answer::Done(_) => {
-            text(b"  reordered pointers");
-            numbers(&pc);
-            text(b"  reordered rows");
-            numbers(&pr);
-            text(b"  where each entry went");
-            numbers(&map);
-            text(b"  parents, 4294967295 for none");
-            numbers(&etree);
-            text(b"  rows in each column of L");
-            numbers(&lnz);
+            text(rt, b"  reordered pointers")?;
+            numbers(rt, &pc)?;
+            text(rt, b"  reordered rows")?;
+            numbers(rt, &pr)?;
+            text(rt, b"  where each entry went")?;
+            numbers(rt, &map)?;
+            text(rt, b"  parents, 4294967295 for none")?;
+            numbers(rt, &etree)?;
+            text(rt, b"  rows in each column of L")?;
+            numbers(rt, &lnz)
         }
     }
 }
 
-fn main() {
+fn main(rt: HostRuntime) -> io::Result<()> {
     let colptr = [0u32, 1, 3, 5];
     let rowval = [0u32, 0, 1, 0, 2];
     let nzval = [4f64, 1.0, 3.0, 2.0, 5.0];
-    text(b"Three pictures share a pool. The matrix by its upper triangle: pointers");
-    numbers(&colptr);
-    text(b"  the rows of the last column");
-    numbers(csc::column(&colptr, &rowval, 2));
+    text(
+        &rt,
+        b"Three pictures share a pool. The matrix by its upper triangle: pointers",
+    )?;
+    numbers(&rt, &colptr)?;
+    text(&rt, b"  the rows of the last column")?;
+    numbers(&rt, csc::column(&colptr, &rowval, 2))?;
 
-    text(b"Strike the pictures out in the order 0 1 2:\n");
+    text(&rt, b"Strike the pictures out in the order 0 1 2:\n")?;
     let rising = [0u32, 1, 2];
-    analyse(&colptr, &rowval, &nzval, &rising);
-    text(b"Strike them out in the order 2 1 0:\n");
+    analyse(&rt, &colptr, &rowval, &nzval, &rising)?;
+    text(&rt, b"Strike them out in the order 2 1 0:\n")?;
     let falling = [2u32, 1, 0];
-    analyse(&colptr, &rowval, &nzval, &falling);
-    text(b"An order that names a picture twice, 1 1 0:\n");
+    analyse(&rt, &colptr, &rowval, &nzval, &falling)?;
+    text(&rt, b"An order that names a picture twice, 1 1 0:\n")?;
     let twice = [1u32, 1, 0];
-    analyse(&colptr, &rowval, &nzval, &twice);
-    text(b"A licence has run out, and its column has no entry:\n");
+    analyse(&rt, &colptr, &rowval, &nzval, &twice)?;
+    text(
+        &rt,
+        b"A licence has run out, and its column has no entry:\n",
+    )?;
     let gone = [0u32, 1, 1, 3];
     let left = [0u32, 0, 2];
     let values = [4f64, 2.0, 5.0];
-    analyse(&gone, &left, &values, &rising);
+    analyse(&rt, &gone, &left, &values, &rising)
 }
