@@ -4,6 +4,7 @@ ghost use Rattle.std.specs.Prelude.{◌≡◌, length};
 use csc::reaches;
 use edit::{offset_values, scale_values, update_values};
 use say::{text, values};
+use std::io;
 
 // Edits three copies of three values, each in its way, if the map and the indices pass their tests.
 fn edited(
@@ -30,11 +31,14 @@ fn edited(
 }
 
 // Index 0 goes to place 2, index 1 to place 0 and index 2 to place 1.
-pub fn repeated() {
+pub fn repeated(rt: &impl Print) -> io::Result<()> {
     let mut updated = [1f64, 22.0, 3.0];
     let mut scaled = [1f64, 22.0, 3.0];
     let mut offset = [1f64, 22.0, 3.0];
-    text(b"permuted values 1,22,3, map 2,0,1, indices 0,0,1,2,2: ");
+    text(
+        rt,
+        b"permuted values 1,22,3, map 2,0,1, indices 0,0,1,2,2: ",
+    )?;
     if edited(
         &[2, 0, 1],
         &[0, 0, 1, 2, 2],
@@ -42,13 +46,13 @@ pub fn repeated() {
         &mut scaled,
         &mut offset,
     ) {
-        text(b"edited\n  updated to 5,7,8,9,6:");
-        values(&updated);
-        text(b"  scaled by 2:");
-        values(&scaled);
-        text(b"  offset by 10, signs 1,127,0,-1,-128:");
-        values(&offset);
+        text(rt, b"edited\n  updated to 5,7,8,9,6:")?;
+        values(rt, &updated)?;
+        text(rt, b"  scaled by 2:")?;
+        values(rt, &scaled)?;
+        text(rt, b"  offset by 10, signs 1,127,0,-1,-128:")?;
+        values(rt, &offset)
     } else {
-        text(b"refused\n");
+        text(rt, b"refused\n")
     }
 }

@@ -4,6 +4,7 @@ ghost use Rattle.std.specs.Prelude.{◌≤◌, length};
 use crate::matrices::analysed;
 use qdldl::Answer;
 use say::text;
+use std::io;
 
 // The first row of column c: a column has 32 rows, from 1,552 on 33, and none above row 0.
 fn first_row(c: usize) -> usize
@@ -20,10 +21,8 @@ fn write_band(colptr: &mut [u32], rowval: &mut [u32])
 {
     let mut c: usize = 0;
     let mut r: usize = 0;
-    let mut k: usize = 0;
-    while k < rowval.len() {
+    for k in 0..rowval.len() {
         rowval[k] = r as u32;
-        k += 1;
         if r < c {
             r += 1;
         } else {
@@ -31,7 +30,7 @@ fn write_band(colptr: &mut [u32], rowval: &mut [u32])
             if colptr.len() <= c {
                 return;
             }
-            colptr[c] = k as u32;
+            colptr[c] = (k + 1) as u32;
             r = first_row(c);
         }
     }
@@ -41,15 +40,13 @@ fn write_band(colptr: &mut [u32], rowval: &mut [u32])
 fn write_identity(perm: &mut [u32])
     requires { length perm.old ≤ 2048 }
 {
-    let mut i: usize = 0;
-    while i < perm.len() {
-        perm[i] = i as u32;
-        i += 1;
+    for (i, place) in perm.iter_mut().enumerate() {
+        *place = i as u32;
     }
 }
 
 // Analyses the band, and says its refusal or that it is accepted.
-pub fn band() {
+pub fn band(rt: &impl Print) -> io::Result<()> {
     let mut colptr = [0u32; 2049];
     let mut rowval = [0u32; 65536];
     let nzval = [1f64; 65536];
@@ -66,9 +63,9 @@ pub fn band() {
         2048, 2048, &colptr, &rowval, &nzval, &perm, &mut pc, &mut pr, &mut pv, &mut map,
         &mut etree, &mut lnz,
     );
-    text(b"n=2,048 and m=65,536: ");
+    text(rt, b"n=2,048 and m=65,536: ")?;
     match answer {
-        Answer::Refused(refusal, _) => say::refusal(refusal),
-        Answer::Done(_) => text(b"accepted\n"),
+        Answer::Refused(refusal, _) => say::refusal(rt, refusal),
+        Answer::Done(_) => text(rt, b"accepted\n"),
     }
 }

@@ -7,15 +7,17 @@ mod matrices;
 mod pivots;
 mod solves;
 
-fn main() {
-    matrices::arrow();
-    matrices::orderings();
-    matrices::smallest();
-    matrices::oblong();
-    solves::pair();
-    pivots::pairs();
-    pivots::single();
-    largest::band();
-    matrices::too_large();
-    edits::repeated();
+use std::io;
+
+fn main(rt: HostRuntime) -> io::Result<()> {
+    matrices::arrow(&rt)?;
+    matrices::orderings(&rt)?;
+    matrices::smallest(&rt)?;
+    matrices::oblong(&rt)?;
+    solves::pair(&rt)?;
+    pivots::pairs(&rt)?;
+    pivots::single(&rt)?;
+    largest::band(&rt)?;
+    matrices::too_large(&rt)?;
+    edits::repeated(&rt)
 }

@@ -2,6 +2,7 @@
 ghost use Rattle.std.specs.Prelude.{◌≡◌, length};
 
 use say::{text, values};
+use std::io;
 
 // Solves for two unknowns, with x in place of b, if the ordering and the factor pass their tests.
 fn solved(
@@ -27,13 +28,13 @@ fn solved(
 }
 
 // The pair whose L is 0.5 and D 4,2.
-pub fn pair() {
+pub fn pair(rt: &impl Print) -> io::Result<()> {
     let mut b = [6f64, 5.0];
-    text(b"[4 2; . 3], right side 6,5: ");
+    text(rt, b"[4 2; . 3], right side 6,5: ")?;
     if solved(&[0, 1], &[0, 1, 1], &[1], &[0.5], &[0.25, 0.5], &mut b) {
-        text(b"x");
-        values(&b);
+        text(rt, b"x")?;
+        values(rt, &b)
     } else {
-        text(b"refused\n");
+        text(rt, b"refused\n")
     }
 }

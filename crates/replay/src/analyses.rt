@@ -9,13 +9,9 @@ use qdldl::{Answer, Status};
 
 // The sum of the counts.
 fn total(counts: &[u32]) -> usize {
-    let mut sum: usize = 0;
-    let mut i: usize = 0;
-    while i < counts.len() {
-        sum = std::num::wrapping_add_usize(sum, wide(counts[i]));
-        i += 1;
-    }
-    sum
+    counts
+        .iter()
+        .fold(0, |sum: usize, count| sum.wrapping_add(wide(*count)))
 }
 
 // Whether the tables of an analysis are the vector's.

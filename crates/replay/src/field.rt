@@ -38,8 +38,7 @@ pub fn read_u32s(page: &[u8], name: &[u8], out: &mut [u32]) -> usize {
     }
     let words = past(line, b' ');
     let mut at: usize = 0;
-    let mut i: usize = 0;
-    while i < n {
+    for i in 0..n {
         let rest = &words[at..];
         let x = whole(first(rest, b' '));
         if 0xffff_ffff < x {
@@ -47,7 +46,6 @@ pub fn read_u32s(page: &[u8], name: &[u8], out: &mut [u32]) -> usize {
         }
         out[i] = x as u32;
         at += through(rest, b' ');
-        i += 1;
     }
     n
 }
@@ -61,8 +59,7 @@ pub fn read_i8s(page: &[u8], name: &[u8], out: &mut [i8]) -> usize {
     }
     let words = past(line, b' ');
     let mut at: usize = 0;
-    let mut i: usize = 0;
-    while i < n {
+    for i in 0..n {
         let rest = &words[at..];
         let x = signed(first(rest, b' '));
         if x == NONE {
@@ -70,7 +67,6 @@ pub fn read_i8s(page: &[u8], name: &[u8], out: &mut [i8]) -> usize {
         }
         out[i] = sign(x);
         at += through(rest, b' ');
-        i += 1;
     }
     n
 }
@@ -84,8 +80,7 @@ pub fn read_f64s(page: &[u8], name: &[u8], out: &mut [f64]) -> usize {
     }
     let words = past(line, b' ');
     let mut at: usize = 0;
-    let mut i: usize = 0;
-    while i < n {
+    for i in 0..n {
         let rest = &words[at..];
         let x = bits(first(rest, b' '));
         if x == NONE {
@@ -93,7 +88,6 @@ pub fn read_f64s(page: &[u8], name: &[u8], out: &mut [f64]) -> usize {
         }
         out[i] = float(x);
         at += through(rest, b' ');
-        i += 1;
     }
     n
 }
@@ -134,32 +128,12 @@ pub fn front_f64s(xs: &[f64], n: usize) -> &[f64] {
 
 // Whether the numbers are the same.
 fn same_u32s(a: &[u32], b: &[u32]) -> bool {
-    if a.len() != b.len() {
-        return false;
-    }
-    let mut i: usize = 0;
-    while i < a.len() {
-        if a[i] != b[i] {
-            return false;
-        }
-        i += 1;
-    }
-    true
+    a == b
 }
 
 // Whether the signs are the same.
 fn same_i8s(a: &[i8], b: &[i8]) -> bool {
-    if a.len() != b.len() {
-        return false;
-    }
-    let mut i: usize = 0;
-    while i < a.len() {
-        if a[i] != b[i] {
-            return false;
-        }
-        i += 1;
-    }
-    true
+    a == b
 }
 
 // Whether the floats are alike.
@@ -167,14 +141,7 @@ fn same_f64s(a: &[f64], b: &[f64]) -> bool {
     if a.len() != b.len() {
         return false;
     }
-    let mut i: usize = 0;
-    while i < a.len() {
-        if !alike(a[i], b[i]) {
-            return false;
-        }
-        i += 1;
-    }
-    true
+    a.iter().zip(b).all(|(x, y)| alike(*x, *y))
 }
 
 // Whether a field has just these numbers.

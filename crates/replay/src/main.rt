@@ -12,13 +12,15 @@ mod word;
 use field::{ROOM, read_one};
 use page::{extent, from};
 use say::text;
+use std::io;
+use std::io::Read;
 use tally::Tally;
 
 // More bytes than the vectors have.
 const PAGE: usize = 262144;
 
 // A tally for each part of a vector.
-#[derive(Drop)]
+#[derive(Clone, Copy)]
 struct Tallies {
     analyses: Tally,
     edits: Tally,
@@ -60,29 +62,28 @@ fn replay_all(vectors: &[u8]) -> Tallies {
 }
 
 // Replays the page, and says what came of it.
-fn report(page: &[u8]) {
+fn report(rt: &impl Print, page: &[u8]) -> io::Result<()> {
     let tallies = replay_all(from(page, b"n"));
     let analyses = tallies.analyses;
     let edits = tallies.edits;
     let solves = tallies.solves;
     let found = analyses.replayed;
-    io::print_decimal(1, found);
-    text(b" vectors\n");
+    println!(rt; "{found} vectors")?;
     if read_one(page, b"vectors") as u64 != found {
-        text(b"the page says another number of vectors\n");
+        text(rt, b"the page says another number of vectors\n")?;
     }
-    analyses.say(b"analysis");
-    edits.say(b"edits");
-    solves.say(b"solve");
+    analyses.say(rt, b"analysis")?;
+    edits.say(rt, b"edits")?;
+    solves.say(rt, b"solve")
 }
 
 // Reads the page, and reports on it where it fits.
-fn main() {
-    let mut page = [0u8; PAGE];
-    let n = io::read_full(0, &mut page);
-    if n < PAGE {
-        report(&page[..n]);
+fn main(rt: HostRuntime) -> io::Result<()> {
+    let mut page = Vec::new(rt.alloc());
+    rt.reader().take(PAGE as u64).read_to_end(&mut page)?;
+    if page.len() < PAGE {
+        report(&rt, &page)
     } else {
-        text(b"the vectors do not fit\n");
+        text(&rt, b"the vectors do not fit\n")
     }
 }

@@ -5,14 +5,12 @@ ghost use Rattle.std.specs.Prelude.{◌<◌, ◌≤◌, length};
 fn until(bytes: &[u8], mark: u8) -> usize
     ensures { result ≤ length bytes.now }
 {
-    let mut i: usize = 0;
-    while i < bytes.len() {
-        if bytes[i] == mark {
+    for (i, byte) in bytes.iter().enumerate() {
+        if *byte == mark {
             return i;
         }
-        i += 1;
     }
-    i
+    bytes.len()
 }
 
 // How many bytes stand up to the first mark, with the mark.
@@ -42,17 +40,7 @@ pub fn past(bytes: &[u8], mark: u8) -> &[u8] {
 
 // Whether two words are the same.
 pub fn same(a: &[u8], b: &[u8]) -> bool {
-    if a.len() != b.len() {
-        return false;
-    }
-    let mut i: usize = 0;
-    while i < a.len() {
-        if a[i] != b[i] {
-            return false;
-        }
-        i += 1;
-    }
-    true
+    a == b
 }
 
 // The page from its first line of that name on, nothing where there is none.
@@ -72,15 +60,7 @@ pub fn from<'p, 'n>(page: &'p [u8], name: &'n [u8]) -> &'p [u8]
 
 // How many marks there are.
 pub fn marks(bytes: &[u8], mark: u8) -> usize {
-    let mut found: usize = 0;
-    let mut i: usize = 0;
-    while i < bytes.len() {
-        if bytes[i] == mark {
-            found += 1;
-        }
-        i += 1;
-    }
-    found
+    bytes.iter().filter(|byte| **byte == mark).count()
 }
 
 // How many bytes stand before the next line of that name, the first line aside.

@@ -1,8 +1,9 @@
 // What the replays come to, and how many of them differ.
 use say::text;
+use std::io;
 
 // What a replay comes to.
-#[derive(Drop)]
+#[derive(Clone, Copy)]
 pub enum Outcome {
     Absent,
     Same,
@@ -10,7 +11,7 @@ pub enum Outcome {
 }
 
 // How many were replayed, and how many of these differ.
-#[derive(Drop)]
+#[derive(Clone, Copy)]
 pub struct Tally {
     pub replayed: u64,
     pub differ: u64,
@@ -27,7 +28,7 @@ impl Tally {
 
     // The tally with one outcome more.
     pub fn with(self, outcome: Outcome) -> Self {
-        let replayed = std::num::wrapping_add_u64(self.replayed, 1);
+        let replayed = self.replayed.wrapping_add(1);
         match outcome {
             Outcome::Absent => self,
             Outcome::Same => Self {
@@ -36,19 +37,17 @@ impl Tally {
             },
             Outcome::Differs => Self {
                 replayed,
-                differ: std::num::wrapping_add_u64(self.differ, 1),
+                differ: self.differ.wrapping_add(1),
             },
         }
     }
 
     // Says the tally under its name.
-    pub fn say(self, name: &[u8]) {
-        text(name);
-        text(b": ");
-        io::print_decimal(1, self.replayed);
-        text(b" replayed, ");
-        io::print_decimal(1, self.differ);
-        text(b" differ\n");
+    pub fn say(self, rt: &impl Print, name: &[u8]) -> io::Result<()> {
+        let replayed = self.replayed;
+        let differ = self.differ;
+        text(rt, name)?;
+        println!(rt; ": {replayed} replayed, {differ} differ")
     }
 }
 

@@ -21,9 +21,8 @@ fn number(word: &[u8], base: u64) -> u64
         return NONE;
     }
     let mut x: u64 = 0;
-    let mut i: usize = 0;
-    while i < word.len() {
-        let d = digit(word[i]);
+    for byte in word {
+        let d = digit(*byte);
         if base <= d {
             return NONE;
         }
@@ -31,7 +30,6 @@ fn number(word: &[u8], base: u64) -> u64
             return NONE;
         }
         x = x * base + d;
-        i += 1;
     }
     x
 }
