@@ -1,6 +1,8 @@
 // What a word of the page spells.
 ghost use Rattle.std.specs.Prelude.{◌≤◌};
 
+use std::num::{f64_from_bits_with_nan, f64_to_bits_with_nan};
+
 // What stands for no number: past every whole number of the page, and a NaN that it never writes.
 pub const NONE: u64 = u64::MAX;
 
@@ -73,20 +75,10 @@ pub fn sign(raised: u64) -> i8 {
 
 // The float of the bits, any NaN as the one NaN.
 pub fn float(bits: u64) -> f64 {
-    if 0x7ff0_0000_0000_0000 < bits % 0x8000_0000_0000_0000 {
-        0.0 / 0.0
-    } else {
-        f64::from_bits(bits)
-    }
+    f64_from_bits_with_nan(bits)
 }
 
 // Whether two floats have the same bits, or are both a NaN.
 pub fn alike(x: f64, y: f64) -> bool {
-    if x != x {
-        return y != y;
-    }
-    if y != y {
-        return false;
-    }
-    f64::to_bits(x) == f64::to_bits(y)
+    f64_to_bits_with_nan(x) == f64_to_bits_with_nan(y)
 }
