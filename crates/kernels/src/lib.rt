@@ -1,44 +1,28 @@
-// The kernels of factor, solve and edit by themselves, for the harness to compare and to time. Each asks what its namesake asks.
+// The kernels of solve and edit by themselves, for the harness to compare and to time. Each asks what its namesake asks.
 #![tactic(auto)]
 
-ghost use Rattle.std.specs.Prelude.{◌≡◌, ◌<◌, ◌≤◌, ◌^◌, [], reverse, length};
-ghost use Rattle.desk.specs.Lists.{upto, over};
-ghost use Rattle.csc.specs.Csc.{matrix};
-ghost use Rattle.factor.specs.Factor.{tables_of, logical_tables, spoiled_factor};
-ghost use Rattle.factor.specs.Steps.{Testable, whole, finished, tables, Prepared, Signed};
+ghost use Rattle.std.specs.Prelude.{◌≡◌, ◌<◌, ◌^◌, reverse, length};
+ghost use Rattle.desk.specs.Lists.{upto};
 ghost use Rattle.solve.specs.Solve.{lsolved, dltsolved, solved, spoiled_l};
 ghost use Rattle.solve.specs.Kernels.{Factored, Solvable};
 ghost use Rattle.edit.specs.Edit.{updated, scaled, offset as offsetted};
 ghost use Rattle.edit.specs.Kernels.{Editable};
-ghost use Rattle.kernels.specs.Words.{settings, progress_words, Told};
 
-use pivot::Regularisation;
-use row::{Progress, Step};
-
-#[unsafe(no_mangle)]
-pub extern "C" fn coinravel_kernel_spoiled(n: usize, lp: &[u32], li: &[u32], lx: &[f64]) -> bool
+pub fn coinravel_kernel_spoiled(n: usize, lp: &[u32], li: &[u32], lx: &[f64]) -> bool
     requires { n < 2 ^ 32 }
     ensures { result ≡ spoiled_l n lp.now li.now lx.now }
 {
     solve::spoiled(n, lp, li, lx)
 }
 
-#[unsafe(no_mangle)]
-pub extern "C" fn coinravel_kernel_lsolve(lp: &[u32], li: &[u32], lx: &[f64], x: &mut [f64])
+pub fn coinravel_kernel_lsolve(lp: &[u32], li: &[u32], lx: &[f64], x: &mut [f64])
     requires { Factored (length x.old) lp.now li.now lx.now }
     ensures { x.new ≡ lsolved lp.now li.now lx.now (upto (length x.old)) x.old }
 {
     solve::lsolve(lp, li, lx, x);
 }
 
-#[unsafe(no_mangle)]
-pub extern "C" fn coinravel_kernel_dltsolve(
-    lp: &[u32],
-    li: &[u32],
-    lx: &[f64],
-    dinv: &[f64],
-    x: &mut [f64],
-)
+pub fn coinravel_kernel_dltsolve(lp: &[u32], li: &[u32], lx: &[f64], dinv: &[f64], x: &mut [f64])
     requires factored { Factored (length x.old) lp.now li.now lx.now }
     requires dinv_len { length dinv.now ≡ length x.old }
     ensures { x.new ≡ dltsolved lp.now li.now lx.now dinv.now (reverse (upto (length x.old))) x.old }
@@ -46,8 +30,7 @@ pub extern "C" fn coinravel_kernel_dltsolve(
     solve::dltsolve(lp, li, lx, dinv, x);
 }
 
-#[unsafe(no_mangle)]
-pub extern "C" fn coinravel_kernel_solve(
+pub fn coinravel_kernel_solve(
     perm: &[u32],
     lp: &[u32],
     li: &[u32],
@@ -62,8 +45,7 @@ pub extern "C" fn coinravel_kernel_solve(
     solve::solve(perm, lp, li, lx, dinv, b, x);
 }
 
-#[unsafe(no_mangle)]
-pub extern "C" fn coinravel_kernel_update_values(
+pub fn coinravel_kernel_update_values(
     map: &[u32],
     indices: &[u32],
     values: &[f64],
@@ -76,21 +58,14 @@ pub extern "C" fn coinravel_kernel_update_values(
     edit::update_values(map, indices, values, vals);
 }
 
-#[unsafe(no_mangle)]
-pub extern "C" fn coinravel_kernel_scale_values(
-    map: &[u32],
-    indices: &[u32],
-    scale: f64,
-    vals: &mut [f64],
-)
+pub fn coinravel_kernel_scale_values(map: &[u32], indices: &[u32], scale: f64, vals: &mut [f64])
     requires { Editable map.now indices.now vals.old }
     ensures { vals.new ≡ scaled map.now indices.now scale vals.old }
 {
     edit::scale_values(map, indices, scale, vals);
 }
 
-#[unsafe(no_mangle)]
-pub extern "C" fn coinravel_kernel_offset_values(
+pub fn coinravel_kernel_offset_values(
     map: &[u32],
     indices: &[u32],
     offset: f64,
@@ -102,122 +77,4 @@ pub extern "C" fn coinravel_kernel_offset_values(
     ensures { vals.new ≡ offsetted map.now indices.now offset signs.now vals.old }
 {
     edit::offset_values(map, indices, offset, signs, vals);
-}
-
-fn settings(on: bool, eps: f64, delta: f64) -> Regularisation
-    ensures { result ≡ settings on eps delta }
-{
-    if on {
-        return Regularisation::On { eps, delta };
-    }
-    Regularisation::Off
-}
-
-fn write_progress(progress: Progress, words: &mut [usize])
-    requires { 3 ≤ length words.old }
-    ensures { words.new ≡ over (progress_words progress) words.old }
-{
-    words[0] = progress.row;
-    words[1] = progress.inertia;
-    words[2] = progress.shifts;
-}
-
-#[unsafe(no_mangle)]
-pub extern "C" fn coinravel_kernel_spoiled_factor(
-    n: usize,
-    colptr: &[u32],
-    rowval: &[u32],
-    etree: &[u32],
-    lnz: &[u32],
-    work: &mut [u32],
-    counts: &mut [u32],
-    parents: &mut [u32],
-) -> bool
-    requires { Testable n colptr.now work.old counts.old parents.old }
-    ensures { result ≡ spoiled_factor n (length rowval.now) (matrix colptr.now rowval.now []) etree.now lnz.now }
-{
-    factor::spoiled(n, colptr, rowval, etree, lnz, work, counts, parents)
-}
-
-// Answers whether all rows are done; words are the next row, or that of the zero pivot, inertia and shifts.
-#[unsafe(no_mangle)]
-pub extern "C" fn coinravel_kernel_numeric(
-    colptr: &[u32],
-    rowval: &[u32],
-    nzval: &[f64],
-    etree: &[u32],
-    lnz: &[u32],
-    dsigns: &[i8],
-    on: bool,
-    eps: f64,
-    delta: f64,
-    lp: &mut [u32],
-    li: &mut [u32],
-    lx: &mut [f64],
-    d: &mut [f64],
-    dinv: &mut [f64],
-    next: &mut [u32],
-    order: &mut [u32],
-    marks: &mut [u8],
-    y: &mut [f64],
-    words: &mut [usize],
-) -> bool
-    requires prepared { Prepared (matrix colptr.now rowval.now nzval.now) etree.now lnz.now (tables lp.old li.old lx.old d.old dinv.old) next.old order.old marks.old }
-    requires signed { Signed (length etree.now) dsigns.now y.old }
-    requires in_bounds { 3 ≤ length words.old }
-    ensures { Told (finished (length etree.now) (whole (length etree.now) (matrix colptr.now rowval.now nzval.now) etree.now dsigns.now (settings on eps delta))) (tables_of (length etree.now) (matrix colptr.now rowval.now nzval.now) (whole (length etree.now) (matrix colptr.now rowval.now nzval.now) etree.now dsigns.now (settings on eps delta)) (tables lp.old li.old lx.old d.old dinv.old)) result words.old words.new (tables lp.new li.new lx.new d.new dinv.new) }
-{
-    let regularisation = settings(on, eps, delta);
-    let step = factor::numeric(
-        colptr,
-        rowval,
-        nzval,
-        etree,
-        lnz,
-        dsigns,
-        regularisation,
-        lp,
-        li,
-        lx,
-        d,
-        dinv,
-        next,
-        order,
-        marks,
-        y,
-    );
-    match step {
-        Step::Done(done) => {
-            write_progress(done, words);
-            true
-        }
-        Step::ZeroPivot(stopped) => {
-            write_progress(stopped, words);
-            false
-        }
-    }
-}
-
-#[unsafe(no_mangle)]
-pub extern "C" fn coinravel_kernel_logical(
-    colptr: &[u32],
-    rowval: &[u32],
-    nzval: &[f64],
-    etree: &[u32],
-    lnz: &[u32],
-    lp: &mut [u32],
-    li: &mut [u32],
-    lx: &mut [f64],
-    d: &mut [f64],
-    dinv: &mut [f64],
-    next: &mut [u32],
-    order: &mut [u32],
-    marks: &mut [u8],
-)
-    requires { Prepared (matrix colptr.now rowval.now nzval.now) etree.now lnz.now (tables lp.old li.old lx.old d.old dinv.old) next.old order.old marks.old }
-    ensures { tables lp.new li.new lx.new d.new dinv.new ≡ logical_tables (length etree.now) (matrix colptr.now rowval.now nzval.now) (tables lp.old li.old lx.old d.old dinv.old) }
-{
-    factor::logical(
-        colptr, rowval, nzval, etree, lnz, lp, li, lx, d, dinv, next, order, marks,
-    );
 }
