@@ -1,0 +1,98 @@
+// The archive of the kernels, for C: each export is its namesake of `kernels`.
+#![tactic(auto)]
+
+ghost use Rattle.std.specs.Prelude.{◌≡◌, ◌<◌, ◌^◌, reverse, length};
+ghost use Rattle.desk.specs.Lists.{upto};
+ghost use Rattle.solve.specs.Solve.{lsolved, dltsolved, solved, spoiled_l};
+ghost use Rattle.solve.specs.Kernels.{Factored, Solvable};
+ghost use Rattle.edit.specs.Edit.{updated, scaled, offset as offsetted};
+ghost use Rattle.edit.specs.Kernels.{Editable};
+
+#[unsafe(no_mangle)]
+pub extern "C" fn coinravel_kernel_spoiled(n: usize, lp: &[u32], li: &[u32], lx: &[f64]) -> bool
+    requires { n < 2 ^ 32 }
+    ensures { result ≡ spoiled_l n lp.now li.now lx.now }
+{
+    kernels::coinravel_kernel_spoiled(n, lp, li, lx)
+}
+
+#[unsafe(no_mangle)]
+pub extern "C" fn coinravel_kernel_lsolve(lp: &[u32], li: &[u32], lx: &[f64], x: &mut [f64])
+    requires { Factored (length x.old) lp.now li.now lx.now }
+    ensures { x.new ≡ lsolved lp.now li.now lx.now (upto (length x.old)) x.old }
+{
+    kernels::coinravel_kernel_lsolve(lp, li, lx, x);
+}
+
+#[unsafe(no_mangle)]
+pub extern "C" fn coinravel_kernel_dltsolve(
+    lp: &[u32],
+    li: &[u32],
+    lx: &[f64],
+    dinv: &[f64],
+    x: &mut [f64],
+)
+    requires factored { Factored (length x.old) lp.now li.now lx.now }
+    requires dinv_len { length dinv.now ≡ length x.old }
+    ensures { x.new ≡ dltsolved lp.now li.now lx.now dinv.now (reverse (upto (length x.old))) x.old }
+{
+    kernels::coinravel_kernel_dltsolve(lp, li, lx, dinv, x);
+}
+
+#[unsafe(no_mangle)]
+pub extern "C" fn coinravel_kernel_solve(
+    perm: &[u32],
+    lp: &[u32],
+    li: &[u32],
+    lx: &[f64],
+    dinv: &[f64],
+    b: &mut [f64],
+    x: &mut [f64],
+)
+    requires { Solvable perm.now lp.now li.now lx.now dinv.now b.old x.old }
+    ensures { b.new ≡ solved (length perm.now) perm.now lp.now li.now lx.now dinv.now b.old }
+{
+    kernels::coinravel_kernel_solve(perm, lp, li, lx, dinv, b, x);
+}
+
+#[unsafe(no_mangle)]
+pub extern "C" fn coinravel_kernel_update_values(
+    map: &[u32],
+    indices: &[u32],
+    values: &[f64],
+    vals: &mut [f64],
+)
+    requires editable { Editable map.now indices.now vals.old }
+    requires values_len { length values.now ≡ length indices.now }
+    ensures { vals.new ≡ updated map.now indices.now values.now vals.old }
+{
+    kernels::coinravel_kernel_update_values(map, indices, values, vals);
+}
+
+#[unsafe(no_mangle)]
+pub extern "C" fn coinravel_kernel_scale_values(
+    map: &[u32],
+    indices: &[u32],
+    scale: f64,
+    vals: &mut [f64],
+)
+    requires { Editable map.now indices.now vals.old }
+    ensures { vals.new ≡ scaled map.now indices.now scale vals.old }
+{
+    kernels::coinravel_kernel_scale_values(map, indices, scale, vals);
+}
+
+#[unsafe(no_mangle)]
+pub extern "C" fn coinravel_kernel_offset_values(
+    map: &[u32],
+    indices: &[u32],
+    offset: f64,
+    signs: &[i8],
+    vals: &mut [f64],
+)
+    requires editable { Editable map.now indices.now vals.old }
+    requires signs_len { length signs.now ≡ length indices.now }
+    ensures { vals.new ≡ offsetted map.now indices.now offset signs.now vals.old }
+{
+    kernels::coinravel_kernel_offset_values(map, indices, offset, signs, vals);
+}
