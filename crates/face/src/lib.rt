@@ -1,4 +1,4 @@
-// The C face of the calls; include/coinravel.h says the same in C.
+// The C face of the calls, which `face_c` exports; include/coinravel.h says the same in C.
 #![tactic(auto)]
 
 ghost use Rattle.std.specs.Prelude.{◌≤◌, ◌≡◌, [], ◌∷◌, length, get_or};
@@ -71,8 +71,8 @@ fn write_status(words: &mut [u64], s: Status)
 }
 
 // A refusal's value, 0 where it has none.
-fn value_of(refusal: Refusal) -> u64
-    ensures { result ≡ get_or (values_of refusal) 0 0 }
+fn value_of(refusal: &Refusal) -> u64
+    ensures { result ≡ get_or (values_of refusal.now) 0 0 }
 {
     match refusal {
         Refusal::NotReady => 0,
@@ -87,14 +87,13 @@ fn value_of(refusal: Refusal) -> u64
         Refusal::BadSign => 0,
         Refusal::Spoiled => 0,
         Refusal::BadIndex => 0,
-        Refusal::NoRoom(needed) => needed as u64,
-        Refusal::ZeroPivot(row) => row as u64,
+        Refusal::NoRoom(needed) => *needed as u64,
+        Refusal::ZeroPivot(row) => *row as u64,
     }
 }
 
 // The analysis. Answers the number, writes the next status to the status words where it is 0, and a refusal's value to value.
-#[unsafe(no_mangle)]
-pub extern "C" fn coinravel_analyse(
+pub fn coinravel_analyse(
     status: &mut [u64],
     value: &mut u64,
     nrows: usize,
@@ -133,7 +132,7 @@ pub extern "C" fn coinravel_analyse(
             0
         }
         Answer::Refused(refusal, _) => {
-            *value = value_of(refusal);
+            *value = value_of(&refusal);
             desk::number(refusal) as u32
         }
     }
