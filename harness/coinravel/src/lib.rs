@@ -1,6 +1,6 @@
 //! The proved analysis, safely: include/coinravel.h over slices, with the names of the original.
 //!
-//! The archive is target/staticlib/libface.a, which `rt staticlib face` writes for x86-64; where it is absent, and on another
+//! The archive is target/staticlib/libface.a, which `harness/archives` writes for x86-64; where it is absent, and on another
 //! machine, the crate has its types and no call.
 #![allow(non_snake_case)]
 

@@ -1,4 +1,4 @@
-//! The kernels of solve and edit by themselves, from the archive that `rt staticlib kernels` writes for x86-64; where it is
+//! The kernels of solve and edit by themselves, from the archive that `harness/archives` writes for x86-64; where it is
 //! absent, and on another machine, the crate is empty.
 #![allow(non_snake_case)]
 #![cfg(archive)]
