@@ -10,7 +10,7 @@ pub const MAX_N: usize = 2048;
 pub const MAX_M: usize = 65536;
 
 // What a call refuses with. NoRoom has the entries that L needs, ZeroPivot the row of the pivot.
-#[derive(Drop)]
+#[derive(Clone, Copy)]
 pub enum Refusal {
     NotReady,
     IncompatibleDimension,
@@ -29,7 +29,7 @@ pub enum Refusal {
 }
 
 // What a call's list of refusals comes to.
-#[derive(Drop)]
+#[derive(Clone, Copy)]
 pub enum Verdict {
     Accepted,
     Refused(Refusal),

@@ -71,8 +71,8 @@ fn write_status(words: &mut [u64], s: Status)
 }
 
 // A refusal's value, 0 where it has none.
-fn value_of(refusal: &Refusal) -> u64
-    ensures { result ≡ get_or (values_of refusal.now) 0 0 }
+fn value_of(refusal: Refusal) -> u64
+    ensures { result ≡ get_or (values_of refusal) 0 0 }
 {
     match refusal {
         Refusal::NotReady => 0,
@@ -87,8 +87,8 @@ fn value_of(refusal: &Refusal) -> u64
         Refusal::BadSign => 0,
         Refusal::Spoiled => 0,
         Refusal::BadIndex => 0,
-        Refusal::NoRoom(needed) => *needed as u64,
-        Refusal::ZeroPivot(row) => *row as u64,
+        Refusal::NoRoom(needed) => needed as u64,
+        Refusal::ZeroPivot(row) => row as u64,
     }
 }
 
@@ -132,7 +132,7 @@ pub fn coinravel_analyse(
             0
         }
         Answer::Refused(refusal, _) => {
-            *value = value_of(&refusal);
+            *value = value_of(refusal);
             desk::number(refusal) as u32
         }
     }

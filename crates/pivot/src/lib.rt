@@ -10,7 +10,7 @@ pub enum Regularisation {
     On { eps: f64, delta: f64 },
 }
 
-#[derive(Drop)]
+#[derive(Clone, Copy)]
 pub struct Pivot {
     pub value: f64,
     pub reciprocal: f64,

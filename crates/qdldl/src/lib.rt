@@ -9,7 +9,7 @@ ghost use Rattle.qdldl.specs.Calls.{empty, Settles, is_empty, nnz_a, nnz_l, posi
 
 use desk::{Refusal, Verdict};
 
-#[derive(Drop)]
+#[derive(Clone, Copy)]
 pub enum Phase {
     Empty,
     Analysed,
@@ -19,7 +19,7 @@ pub enum Phase {
 }
 
 // The order, the entries, the length of L, the pivots above zero and the shifts.
-#[derive(Drop)]
+#[derive(Clone, Copy)]
 pub struct Status {
     pub phase: Phase,
     pub n: usize,
@@ -30,7 +30,7 @@ pub struct Status {
 }
 
 // What a call answers: done, or refused; either way with the next status.
-#[derive(Drop)]
+#[derive(Clone, Copy)]
 pub enum Answer {
     Done(Status),
     Refused(Refusal, Status),

@@ -20,7 +20,7 @@ use desk::wide;
 use pivot::{Pivot, Regularisation, is_positive, is_zero, regularised};
 
 // What moves from row to row: the next row, the pivots above zero and the shifts so far.
-#[derive(Drop)]
+#[derive(Clone, Copy)]
 pub struct Progress {
     pub row: usize,
     pub inertia: usize,
@@ -28,7 +28,7 @@ pub struct Progress {
 }
 
 // What a row comes to.
-#[derive(Drop)]
+#[derive(Clone, Copy)]
 pub enum Step {
     Done(Progress),
     ZeroPivot(Progress),
