@@ -1,19 +1,26 @@
 //! The archives against the parts of the original that answer to them, both in one run, best of several, in turns.
-use crate::{by_face, by_oracle, case::Case, faults::ToAnalysis, random, rng::Rng};
-use kernels::Columns;
+use crate::{
+    by_face, by_kernels, by_oracle, by_plain, by_plain::factor_tables, case::Case, faults::ToAnalysis, random, rng::Rng,
+};
+use kernels::{Columns, Scratch};
 use oracle::qdldl::{self, QDLDLFactorisation};
-use plain::MAX_M;
+use plain::{Analysis, Factors, MAX_M};
 use std::{
     hint::black_box,
     time::{Duration, Instant},
 };
 
 const RUNS: usize = 40;
+const LONG: Duration = Duration::from_secs(4); // where a turn takes long, fewer runs do
 
 const ANALYSIS: &str = "\
 analysis: coinravel_analyse with all its tests, in lent tables, against check_structure, _invperm, permute_symmetric and
 _etree, which allocate the inverse, the reordered triangle and the map themselves
 shape      n      m    L's   ours us theirs us ours/theirs";
+
+const REFACTOR: &str = "
+refactor: the pointers and the numeric factor, without and with the test of the tables, against the original's refactor
+shape      n      m    L's   ours us  with us theirs us ours/theirs  with/theirs";
 
 const SOLVE: &str = "
 solve: lsolve and dltsolve, without and with the test of L, against _solve on the same factor
@@ -27,11 +34,13 @@ pub fn run() {
         let (nnzL, [ours, theirs]) = analysis(case);
         println!("{}{ours:10.1}{theirs:10.1}{:10.2}", head(shape, case, nnzL), ours / theirs);
     }
-    println!("{SOLVE}");
-    for (shape, case) in &cases {
-        let (nnzL, [ours, with, theirs]) = solve(case);
-        let ratios = format!("{:10.2}{:10.2}", ours / theirs, with / theirs);
-        println!("{}{ours:10.1}{with:10.1}{theirs:10.1}{ratios}", head(shape, case, nnzL));
+    for (title, call) in [(REFACTOR, refactor as fn(&Case) -> (usize, [f64; 3])), (SOLVE, solve)] {
+        println!("{title}");
+        for (shape, case) in &cases {
+            let (nnzL, [ours, with, theirs]) = call(case);
+            let ratios = format!("{:10.2}{:10.2}", ours / theirs, with / theirs);
+            println!("{}{ours:10.1}{with:10.1}{theirs:10.1}{ratios}", head(shape, case, nnzL));
+        }
     }
 }
 
@@ -60,10 +69,13 @@ fn cases() -> Vec<(&'static str, Case)> {
 
 /// The best time in microseconds of each of several, which take turns.
 fn best<const K: usize>(mut turn: impl FnMut(usize) -> Duration) -> [f64; K] {
-    let mut best = [Duration::MAX; K];
-    for _ in 0..RUNS {
+    let (mut best, start) = ([Duration::MAX; K], Instant::now());
+    for run in 0..RUNS {
         for (side, best) in best.iter_mut().enumerate() {
             *best = turn(side).min(*best);
+        }
+        if run >= RUNS / 8 && start.elapsed() > LONG {
+            break;
         }
     }
     best.map(|time| time.as_secs_f64() * 1e6)
@@ -95,6 +107,33 @@ fn analysis(case: &Case) -> (usize, [f64; 2]) {
         }
     });
     (words[3] as usize, times)
+}
+
+fn refactor(case: &Case) -> (usize, [f64; 3]) {
+    let n = case.n();
+    let (_, Analysis { A, .. }) = by_plain::analysed(case).unwrap();
+    let mut theirs = by_oracle::new(case).unwrap();
+    let nnzL = theirs.nnzL();
+    let (mut F, mut scratch) = (factor_tables(n, nnzL, 0), Scratch::of(n));
+    assert!(by_kernels::factored(&A, case.settings, false, &mut F).done);
+    let times = best(|side| {
+        // Sound by the test above, of the same tables.
+        let ours = |F: &mut Factors, scratch: &mut Scratch| unsafe {
+            let (A, L) = (by_kernels::triangle(&A), by_kernels::tables(F));
+            kernels::numeric(A, by_kernels::settings(case.settings), L, scratch)
+        };
+        let (time, done) = match side {
+            0 => timed(|| ours(black_box(&mut F), &mut scratch).done),
+            1 => timed(|| {
+                assert!(!kernels::spoiled_factor(by_kernels::triangle(black_box(&A)), &mut scratch));
+                ours(&mut F, &mut scratch).done
+            }),
+            _ => timed(|| black_box(&mut theirs).refactor().is_ok()),
+        };
+        assert!(done);
+        time
+    });
+    (nnzL, times)
 }
 
 fn solve(case: &Case) -> (usize, [f64; 3]) {

@@ -2,25 +2,32 @@
 use crate::{
     by_face::{analyse, Reply},
     by_kernels, by_oracle,
-    by_plain::{FLOAT, SIGN, WORD},
-    case::Case,
+    by_plain::{factor_tables, FLOAT, SIGN, WORD},
+    case::{Answer, Case},
     faults::{to_analysis, ToAnalysis, ANALYSIS},
     random,
     rng::Rng,
     text::same,
 };
 use coinravel::STATUS_WORDS;
-use kernels::Columns;
-use plain::{refusal::L_is_spoiled, Factors, MAX_M, MAX_N};
+use kernels::{Columns, Scratch};
+use plain::{
+    refusal::{is_spoiled, L_is_spoiled},
+    Factors, Permuted, MAX_M, MAX_N,
+};
 
 const LARGE: usize = 4;
 const ORDER: usize = 40;
 
-/// How many differ, how many analyses gave each number, how many values were edited, solves run and damaged L spoiled.
+/// How many differ, how many analyses gave each number, how many factors were made, of which stopped at a zero pivot, how many damaged
+/// tables of a factor were spoiled, how many values were edited, solves run and damaged L spoiled.
 #[derive(Default)]
 pub struct Count {
     pub differ: usize,
     pub numbers: [usize; 11],
+    pub factored: usize,
+    pub stopped: usize,
+    pub tables_spoiled: usize,
     pub edited: usize,
     pub solved: usize,
     pub spoiled: usize,
@@ -177,7 +184,8 @@ fn change<T>(rng: &mut Rng, table: &mut [T], to: impl Fn(&mut Rng) -> T) {
     }
 }
 
-/// The edits and the solve on the original's factor, logical where the numeric one stops at a zero pivot; then its L damaged.
+/// The factor, the edits, the refactor and the solve, each on what the original had before it, the first factor logical where the
+/// numeric one stops at a zero pivot; then L damaged.
 fn by_parts(rng: &mut Rng, count: &mut Count, mut case: Case) {
     let theirs = by_oracle::answer(&case).unwrap_or_else(|_| {
         case.logical = true;
@@ -185,6 +193,8 @@ fn by_parts(rng: &mut Rng, count: &mut Count, mut case: Case) {
     });
     count.edited += case.edits.iter().map(|edit| edit.indices().len()).sum::<usize>();
     let mut agree = same(&by_kernels::edited(&case, &theirs.AtoPAPt), &theirs.Ax);
+
+    agree &= factors(rng, count, &case, &theirs);
 
     let L = Columns { Lp: &theirs.Lp, Li: &theirs.Li, Lx: &theirs.Lx };
     if !theirs.x.is_empty() {
@@ -206,6 +216,59 @@ fn by_parts(rng: &mut Rng, count: &mut Count, mut case: Case) {
     if !agree {
         count.differ += 1;
         eprintln!("differs: {case:?} {F:?}");
+    }
+}
+
+/// The factor, and the refactor after the edits, in tables with something past their needed part; then the test of what a factor
+/// reads, damaged.
+fn factors(rng: &mut Rng, count: &mut Count, case: &Case, theirs: &Answer) -> bool {
+    let (n, nnzL, past) = (case.n(), theirs.Li.len(), rng.below(3));
+    let mut F = factor_tables(n, nnzL, past);
+    let mut A = permuted(theirs);
+    for (&place, &value) in theirs.AtoPAPt.iter().zip(&case.nzval) {
+        A.Ax[place as usize] = value;
+    }
+    let mut step = by_kernels::factored(&A, case.settings, case.logical, &mut F);
+    if case.refactor {
+        A.Ax.clone_from(&theirs.Ax);
+        step = by_kernels::factored(&A, case.settings, false, &mut F);
+    }
+    count.factored += 1;
+    count.stopped += usize::from(!step.done);
+    let row = theirs.zero.map_or(n, |row| row as usize);
+    let counted = (step.done, step.row, step.inertia as u32, step.shifts as u32);
+    let agree = counted == (theirs.zero.is_none(), row, theirs.inertia, theirs.shifts)
+        && (F.Lp, F.Li) == (longer(theirs.Lp.clone(), past, WORD), longer(theirs.Li.clone(), past, WORD))
+        && same(&F.Lx, &longer(theirs.Lx.clone(), past, FLOAT))
+        && same(&F.D, &longer(theirs.D.clone(), past, FLOAT))
+        && same(&F.Dinv, &longer(theirs.Dinv.clone(), past, FLOAT));
+
+    damage_A(rng, &mut A);
+    let spoiled = is_spoiled(&A, A.Ai.len());
+    count.tables_spoiled += usize::from(spoiled);
+    agree && kernels::spoiled_factor(by_kernels::triangle(&A), &mut Scratch::of(n)) == spoiled
+}
+
+fn permuted(theirs: &Answer) -> Permuted {
+    Permuted {
+        Ap: theirs.Ap.clone(),
+        Ai: theirs.Ai.clone(),
+        Ax: theirs.Ax.clone(),
+        etree: theirs.etree.clone(),
+        Lnz: theirs.Lnz.clone(),
+        Dsigns: theirs.Dsigns.clone(),
+    }
+}
+
+fn damage_A(rng: &mut Rng, A: &mut Permuted) {
+    let (n, m) = (A.etree.len(), A.Ai.len());
+    match rng.below(6) {
+        0 => change(rng, &mut A.Ap, |rng| rng.below(m + 2) as u32),
+        1 => change(rng, &mut A.Ai, |rng| rng.below(n + 1) as u32),
+        2 => change(rng, &mut A.etree, |rng| rng.below(n + 1) as u32),
+        3 => change(rng, &mut A.Lnz, |rng| rng.below(n + 1) as u32),
+        4 => A.Ai.swap(rng.below(m), rng.below(m)),
+        _ => {}
     }
 }
 

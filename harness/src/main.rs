@@ -36,6 +36,7 @@ fn vectors() {
 fn differential(seed: u64, cases: usize) {
     let count = harness::differential::run(seed, cases);
     println!("analyses by their numbers 0 to 10: {:?}", count.numbers);
+    println!("factors: {}, stopped: {}, spoiled tables: {}", count.factored, count.stopped, count.tables_spoiled);
     println!("values edited: {}, solves: {}, spoiled L: {}", count.edited, count.solved, count.spoiled);
     println!("{cases} compared, {} differ", count.differ);
     std::process::exit(i32::from(count.differ > 0));

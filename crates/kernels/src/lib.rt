@@ -1,12 +1,19 @@
-// The kernels of solve and edit by themselves, for the harness to compare and to time. Each asks what its namesake asks.
+// The kernels of factor, solve and edit by themselves, for the harness to compare and to time. Each asks what its namesake asks.
 #![tactic(auto)]
 
-ghost use Rattle.std.specs.Prelude.{◌≡◌, ◌<◌, ◌^◌, reverse, length};
-ghost use Rattle.desk.specs.Lists.{upto};
+ghost use Rattle.std.specs.Prelude.{◌≡◌, ◌<◌, ◌≤◌, ◌^◌, [], reverse, length};
+ghost use Rattle.desk.specs.Lists.{upto, over};
+ghost use Rattle.csc.specs.Csc.{matrix};
+ghost use Rattle.factor.specs.Factor.{tables_of, logical_tables, spoiled_factor};
+ghost use Rattle.factor.specs.Steps.{Testable, whole, finished, tables, Prepared, Signed};
 ghost use Rattle.solve.specs.Solve.{lsolved, dltsolved, solved, spoiled_l};
 ghost use Rattle.solve.specs.Kernels.{Factored, Solvable};
 ghost use Rattle.edit.specs.Edit.{updated, scaled, offset as offsetted};
 ghost use Rattle.edit.specs.Kernels.{Editable};
+ghost use Rattle.kernels.specs.Words.{settings, progress_words, Told};
+
+use pivot::Regularisation;
+use row::{Progress, Step};
 
 pub fn coinravel_kernel_spoiled(n: usize, lp: &[u32], li: &[u32], lx: &[f64]) -> bool
     requires { n < 2 ^ 32 }
@@ -77,4 +84,119 @@ pub fn coinravel_kernel_offset_values(
     ensures { vals.new ≡ offsetted map.now indices.now offset signs.now vals.old }
 {
     edit::offset_values(map, indices, offset, signs, vals);
+}
+
+fn settings(on: bool, eps: f64, delta: f64) -> Regularisation
+    ensures { result ≡ settings on eps delta }
+{
+    if on {
+        return Regularisation::On { eps, delta };
+    }
+    Regularisation::Off
+}
+
+fn write_progress(progress: Progress, words: &mut [usize])
+    requires { 3 ≤ length words.old }
+    ensures { words.new ≡ over (progress_words progress) words.old }
+{
+    words[0] = progress.row;
+    words[1] = progress.inertia;
+    words[2] = progress.shifts;
+}
+
+pub fn coinravel_kernel_spoiled_factor(
+    n: usize,
+    colptr: &[u32],
+    rowval: &[u32],
+    etree: &[u32],
+    lnz: &[u32],
+    work: &mut [u32],
+    counts: &mut [u32],
+    parents: &mut [u32],
+) -> bool
+    requires { Testable n colptr.now work.old counts.old parents.old }
+    ensures { result ≡ spoiled_factor n (length rowval.now) (matrix colptr.now rowval.now []) etree.now lnz.now }
+{
+    factor::spoiled(n, colptr, rowval, etree, lnz, work, counts, parents)
+}
+
+// Answers whether all rows are done; words are the next row, or that of the zero pivot, inertia and shifts.
+pub fn coinravel_kernel_numeric(
+    colptr: &[u32],
+    rowval: &[u32],
+    nzval: &[f64],
+    etree: &[u32],
+    lnz: &[u32],
+    dsigns: &[i8],
+    on: bool,
+    eps: f64,
+    delta: f64,
+    lp: &mut [u32],
+    li: &mut [u32],
+    lx: &mut [f64],
+    d: &mut [f64],
+    dinv: &mut [f64],
+    next: &mut [u32],
+    order: &mut [u32],
+    marks: &mut [u8],
+    y: &mut [f64],
+    words: &mut [usize],
+) -> bool
+    requires prepared { Prepared (matrix colptr.now rowval.now nzval.now) etree.now lnz.now (tables lp.old li.old lx.old d.old dinv.old) next.old order.old marks.old }
+    requires signed { Signed (length etree.now) dsigns.now y.old }
+    requires in_bounds { 3 ≤ length words.old }
+    ensures { Told (finished (length etree.now) (whole (length etree.now) (matrix colptr.now rowval.now nzval.now) etree.now dsigns.now (settings on eps delta))) (tables_of (length etree.now) (matrix colptr.now rowval.now nzval.now) (whole (length etree.now) (matrix colptr.now rowval.now nzval.now) etree.now dsigns.now (settings on eps delta)) (tables lp.old li.old lx.old d.old dinv.old)) result words.old words.new (tables lp.new li.new lx.new d.new dinv.new) }
+{
+    let regularisation = settings(on, eps, delta);
+    let step = factor::numeric(
+        colptr,
+        rowval,
+        nzval,
+        etree,
+        lnz,
+        dsigns,
+        regularisation,
+        lp,
+        li,
+        lx,
+        d,
+        dinv,
+        next,
+        order,
+        marks,
+        y,
+    );
+    match step {
+        Step::Done(done) => {
+            write_progress(done, words);
+            true
+        }
+        Step::ZeroPivot(stopped) => {
+            write_progress(stopped, words);
+            false
+        }
+    }
+}
+
+pub fn coinravel_kernel_logical(
+    colptr: &[u32],
+    rowval: &[u32],
+    nzval: &[f64],
+    etree: &[u32],
+    lnz: &[u32],
+    lp: &mut [u32],
+    li: &mut [u32],
+    lx: &mut [f64],
+    d: &mut [f64],
+    dinv: &mut [f64],
+    next: &mut [u32],
+    order: &mut [u32],
+    marks: &mut [u8],
+)
+    requires { Prepared (matrix colptr.now rowval.now nzval.now) etree.now lnz.now (tables lp.old li.old lx.old d.old dinv.old) next.old order.old marks.old }
+    ensures { tables lp.new li.new lx.new d.new dinv.new ≡ logical_tables (length etree.now) (matrix colptr.now rowval.now nzval.now) (tables lp.old li.old lx.old d.old dinv.old) }
+{
+    factor::logical(
+        colptr, rowval, nzval, etree, lnz, lp, li, lx, d, dinv, next, order, marks,
+    );
 }

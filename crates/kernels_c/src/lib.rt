@@ -1,12 +1,16 @@
 // The archive of the kernels, for C: each export is its namesake of `kernels`.
 #![tactic(auto)]
 
-ghost use Rattle.std.specs.Prelude.{◌≡◌, ◌<◌, ◌^◌, reverse, length};
+ghost use Rattle.std.specs.Prelude.{◌≡◌, ◌<◌, ◌≤◌, ◌^◌, [], reverse, length};
 ghost use Rattle.desk.specs.Lists.{upto};
+ghost use Rattle.csc.specs.Csc.{matrix};
+ghost use Rattle.factor.specs.Factor.{tables_of, logical_tables, spoiled_factor};
+ghost use Rattle.factor.specs.Steps.{Testable, whole, finished, tables, Prepared, Signed};
 ghost use Rattle.solve.specs.Solve.{lsolved, dltsolved, solved, spoiled_l};
 ghost use Rattle.solve.specs.Kernels.{Factored, Solvable};
 ghost use Rattle.edit.specs.Edit.{updated, scaled, offset as offsetted};
 ghost use Rattle.edit.specs.Kernels.{Editable};
+ghost use Rattle.kernels.specs.Words.{settings, Told};
 
 #[unsafe(no_mangle)]
 pub extern "C" fn coinravel_kernel_spoiled(n: usize, lp: &[u32], li: &[u32], lx: &[f64]) -> bool
@@ -95,4 +99,79 @@ pub extern "C" fn coinravel_kernel_offset_values(
     ensures { vals.new ≡ offsetted map.now indices.now offset signs.now vals.old }
 {
     kernels::coinravel_kernel_offset_values(map, indices, offset, signs, vals);
+}
+
+#[unsafe(no_mangle)]
+pub extern "C" fn coinravel_kernel_spoiled_factor(
+    n: usize,
+    colptr: &[u32],
+    rowval: &[u32],
+    etree: &[u32],
+    lnz: &[u32],
+    work: &mut [u32],
+    counts: &mut [u32],
+    parents: &mut [u32],
+) -> bool
+    requires { Testable n colptr.now work.old counts.old parents.old }
+    ensures { result ≡ spoiled_factor n (length rowval.now) (matrix colptr.now rowval.now []) etree.now lnz.now }
+{
+    kernels::coinravel_kernel_spoiled_factor(n, colptr, rowval, etree, lnz, work, counts, parents)
+}
+
+// Answers whether all rows are done; words are the next row, or that of the zero pivot, inertia and shifts.
+#[unsafe(no_mangle)]
+pub extern "C" fn coinravel_kernel_numeric(
+    colptr: &[u32],
+    rowval: &[u32],
+    nzval: &[f64],
+    etree: &[u32],
+    lnz: &[u32],
+    dsigns: &[i8],
+    on: bool,
+    eps: f64,
+    delta: f64,
+    lp: &mut [u32],
+    li: &mut [u32],
+    lx: &mut [f64],
+    d: &mut [f64],
+    dinv: &mut [f64],
+    next: &mut [u32],
+    order: &mut [u32],
+    marks: &mut [u8],
+    y: &mut [f64],
+    words: &mut [usize],
+) -> bool
+    requires prepared { Prepared (matrix colptr.now rowval.now nzval.now) etree.now lnz.now (tables lp.old li.old lx.old d.old dinv.old) next.old order.old marks.old }
+    requires signed { Signed (length etree.now) dsigns.now y.old }
+    requires in_bounds { 3 ≤ length words.old }
+    ensures { Told (finished (length etree.now) (whole (length etree.now) (matrix colptr.now rowval.now nzval.now) etree.now dsigns.now (settings on eps delta))) (tables_of (length etree.now) (matrix colptr.now rowval.now nzval.now) (whole (length etree.now) (matrix colptr.now rowval.now nzval.now) etree.now dsigns.now (settings on eps delta)) (tables lp.old li.old lx.old d.old dinv.old)) result words.old words.new (tables lp.new li.new lx.new d.new dinv.new) }
+{
+    kernels::coinravel_kernel_numeric(
+        colptr, rowval, nzval, etree, lnz, dsigns, on, eps, delta, lp, li, lx, d, dinv, next,
+        order, marks, y, words,
+    )
+}
+
+#[unsafe(no_mangle)]
+pub extern "C" fn coinravel_kernel_logical(
+    colptr: &[u32],
+    rowval: &[u32],
+    nzval: &[f64],
+    etree: &[u32],
+    lnz: &[u32],
+    lp: &mut [u32],
+    li: &mut [u32],
+    lx: &mut [f64],
+    d: &mut [f64],
+    dinv: &mut [f64],
+    next: &mut [u32],
+    order: &mut [u32],
+    marks: &mut [u8],
+)
+    requires { Prepared (matrix colptr.now rowval.now nzval.now) etree.now lnz.now (tables lp.old li.old lx.old d.old dinv.old) next.old order.old marks.old }
+    ensures { tables lp.new li.new lx.new d.new dinv.new ≡ logical_tables (length etree.now) (matrix colptr.now rowval.now nzval.now) (tables lp.old li.old lx.old d.old dinv.old) }
+{
+    kernels::coinravel_kernel_logical(
+        colptr, rowval, nzval, etree, lnz, lp, li, lx, d, dinv, next, order, marks,
+    );
 }

@@ -1,9 +1,91 @@
-//! The kernels of solve and edit by themselves, from the archive that `harness/archives` writes for x86-64; where it is
+//! The kernels of factor, solve and edit by themselves, from the archive that `harness/archives` writes for x86-64; where it is
 //! absent, and on another machine, the crate is empty.
 #![allow(non_snake_case)]
 #![cfg(archive)]
 
 extern "C" {
+    fn coinravel_kernel_spoiled_factor(
+        n: usize,
+        colptr: *const u32,
+        colptr_len: usize,
+        rowval: *const u32,
+        rowval_len: usize,
+        etree: *const u32,
+        etree_len: usize,
+        lnz: *const u32,
+        lnz_len: usize,
+        work: *mut u32,
+        work_len: usize,
+        counts: *mut u32,
+        counts_len: usize,
+        parents: *mut u32,
+        parents_len: usize,
+    ) -> bool;
+    fn coinravel_kernel_numeric(
+        colptr: *const u32,
+        colptr_len: usize,
+        rowval: *const u32,
+        rowval_len: usize,
+        nzval: *const f64,
+        nzval_len: usize,
+        etree: *const u32,
+        etree_len: usize,
+        lnz: *const u32,
+        lnz_len: usize,
+        dsigns: *const i8,
+        dsigns_len: usize,
+        on: bool,
+        eps: f64,
+        delta: f64,
+        lp: *mut u32,
+        lp_len: usize,
+        li: *mut u32,
+        li_len: usize,
+        lx: *mut f64,
+        lx_len: usize,
+        d: *mut f64,
+        d_len: usize,
+        dinv: *mut f64,
+        dinv_len: usize,
+        next: *mut u32,
+        next_len: usize,
+        order: *mut u32,
+        order_len: usize,
+        marks: *mut u8,
+        marks_len: usize,
+        y: *mut f64,
+        y_len: usize,
+        words: *mut usize,
+        words_len: usize,
+    ) -> bool;
+    fn coinravel_kernel_logical(
+        colptr: *const u32,
+        colptr_len: usize,
+        rowval: *const u32,
+        rowval_len: usize,
+        nzval: *const f64,
+        nzval_len: usize,
+        etree: *const u32,
+        etree_len: usize,
+        lnz: *const u32,
+        lnz_len: usize,
+        lp: *mut u32,
+        lp_len: usize,
+        li: *mut u32,
+        li_len: usize,
+        lx: *mut f64,
+        lx_len: usize,
+        d: *mut f64,
+        d_len: usize,
+        dinv: *mut f64,
+        dinv_len: usize,
+        next: *mut u32,
+        next_len: usize,
+        order: *mut u32,
+        order_len: usize,
+        marks: *mut u8,
+        marks_len: usize,
+    );
     fn coinravel_kernel_spoiled(
         n: usize,
         lp: *const u32,
@@ -80,6 +162,168 @@ extern "C" {
         signs_len: usize,
         vals: *mut f64,
         vals_len: usize,
+    );
+}
+
+/// What the factor reads: the permuted triangle, parents, counts and signs.
+#[derive(Clone, Copy, Debug)]
+pub struct Triangle<'a> {
+    pub Ap: &'a [u32],
+    pub Ai: &'a [u32],
+    pub Ax: &'a [f64],
+    pub etree: &'a [u32],
+    pub Lnz: &'a [u32],
+    pub Dsigns: &'a [i8],
+}
+
+/// What the factor writes.
+#[derive(Debug)]
+pub struct Tables<'a> {
+    pub Lp: &'a mut [u32],
+    pub Li: &'a mut [u32],
+    pub Lx: &'a mut [f64],
+    pub D: &'a mut [f64],
+    pub Dinv: &'a mut [f64],
+}
+
+/// Scratch of an order, which holds anything.
+#[derive(Clone, Debug)]
+pub struct Scratch {
+    words: [Vec<u32>; 3],
+    bytes: Vec<u8>,
+    floats: Vec<f64>,
+}
+
+impl Scratch {
+    #[must_use]
+    pub fn of(n: usize) -> Scratch {
+        Scratch { words: [(); 3].map(|()| vec![0xdead; n]), bytes: vec![0xde; n], floats: vec![f64::NAN; n] }
+    }
+}
+
+/// What a numeric factor came to: whether all rows are done, the next row or that of the zero pivot, inertia and shifts.
+#[derive(Clone, Copy, Debug, PartialEq, Eq)]
+pub struct Step {
+    pub done: bool,
+    pub row: usize,
+    pub inertia: usize,
+    pub shifts: usize,
+}
+
+/// The test of what the factor reads, at the order of the parents.
+#[must_use]
+pub fn spoiled_factor(A: Triangle, scratch: &mut Scratch) -> bool {
+    let n = A.etree.len();
+    let [work, counts, parents] = &mut scratch.words;
+    assert!(u32::try_from(n).is_ok() && A.Ap.len() == n + 1);
+    assert!(work.len() >= n && counts.len() >= n && parents.len() >= n);
+    // Sound by the two lines above.
+    unsafe {
+        coinravel_kernel_spoiled_factor(
+            n,
+            A.Ap.as_ptr(),
+            A.Ap.len(),
+            A.Ai.as_ptr(),
+            A.Ai.len(),
+            A.etree.as_ptr(),
+            A.etree.len(),
+            A.Lnz.as_ptr(),
+            A.Lnz.len(),
+            work.as_mut_ptr(),
+            work.len(),
+            counts.as_mut_ptr(),
+            counts.len(),
+            parents.as_mut_ptr(),
+            parents.len(),
+        )
+    }
+}
+
+/// The numeric factor; regularisation is off, or on with an eps and a delta.
+///
+/// # Safety
+///
+/// The order is within the limits, values are as many as rows and at least one, signs as many as parents; A is not spoiled; the written
+/// tables and scratch are long enough.
+pub unsafe fn numeric(A: Triangle, regularisation: Option<(f64, f64)>, L: Tables, scratch: &mut Scratch) -> Step {
+    let (eps, delta) = regularisation.unwrap_or_default();
+    let [next, order, _] = &mut scratch.words;
+    let mut words = [0; 3];
+    let done = coinravel_kernel_numeric(
+        A.Ap.as_ptr(),
+        A.Ap.len(),
+        A.Ai.as_ptr(),
+        A.Ai.len(),
+        A.Ax.as_ptr(),
+        A.Ax.len(),
+        A.etree.as_ptr(),
+        A.etree.len(),
+        A.Lnz.as_ptr(),
+        A.Lnz.len(),
+        A.Dsigns.as_ptr(),
+        A.Dsigns.len(),
+        regularisation.is_some(),
+        eps,
+        delta,
+        L.Lp.as_mut_ptr(),
+        L.Lp.len(),
+        L.Li.as_mut_ptr(),
+        L.Li.len(),
+        L.Lx.as_mut_ptr(),
+        L.Lx.len(),
+        L.D.as_mut_ptr(),
+        L.D.len(),
+        L.Dinv.as_mut_ptr(),
+        L.Dinv.len(),
+        next.as_mut_ptr(),
+        next.len(),
+        order.as_mut_ptr(),
+        order.len(),
+        scratch.bytes.as_mut_ptr(),
+        scratch.bytes.len(),
+        scratch.floats.as_mut_ptr(),
+        scratch.floats.len(),
+        words.as_mut_ptr(),
+        words.len(),
+    );
+    let [row, inertia, shifts] = words;
+    Step { done, row, inertia, shifts }
+}
+
+/// The logical factor.
+///
+/// # Safety
+///
+/// As for `numeric`, but for the signs.
+pub unsafe fn logical(A: Triangle, L: Tables, scratch: &mut Scratch) {
+    let [next, order, _] = &mut scratch.words;
+    coinravel_kernel_logical(
+        A.Ap.as_ptr(),
+        A.Ap.len(),
+        A.Ai.as_ptr(),
+        A.Ai.len(),
+        A.Ax.as_ptr(),
+        A.Ax.len(),
+        A.etree.as_ptr(),
+        A.etree.len(),
+        A.Lnz.as_ptr(),
+        A.Lnz.len(),
+        L.Lp.as_mut_ptr(),
+        L.Lp.len(),
+        L.Li.as_mut_ptr(),
+        L.Li.len(),
+        L.Lx.as_mut_ptr(),
+        L.Lx.len(),
+        L.D.as_mut_ptr(),
+        L.D.len(),
+        L.Dinv.as_mut_ptr(),
+        L.Dinv.len(),
+        next.as_mut_ptr(),
+        next.len(),
+        order.as_mut_ptr(),
+        order.len(),
+        scratch.bytes.as_mut_ptr(),
+        scratch.bytes.len(),
     );
 }
 
