@@ -33,10 +33,10 @@ above (negsuc n) e = absurd (true≢false e)
 pub returns-in-minus1-to-1 : goal.returns-in-minus1-to-1
 returns-in-minus1-to-1 c =
     let z = c.args.sign in
-    within z (read_back (λ y. lt_z y (negsuc 0)) w8 z c.ranges.sign c.in-minus1-to-1.if-sign-ltminus1-own.false) (read_back (λ y. lt_z y (pos 2)) w8 z c.ranges.sign c.in-minus1-to-1.if-sign-lt2-own.true)
+    within z (read_back (λ y. lt_z y (negsuc 0)) w8 z c.ranges.sign (cc)) (read_back (λ y. lt_z y (pos 2)) w8 z c.ranges.sign (cc))
 
 pub returns-in_default : goal.returns-in_default
-returns-in_default c = under c.args.sign (read_back (λ y. lt_z y (negsuc 0)) w8 c.args.sign c.ranges.sign c.in_default.if-sign-ltminus1-own.true)
+returns-in_default c = under c.args.sign (read_back (λ y. lt_z y (negsuc 0)) w8 c.args.sign c.ranges.sign (cc))
 
 pub returns-in_default-2 : goal.returns-in_default-2
-returns-in_default-2 c = above c.args.sign (read_back (λ y. lt_z y (pos 2)) w8 c.args.sign c.ranges.sign c.in_default.if-sign-lt2-own.false)
+returns-in_default-2 c = above c.args.sign (read_back (λ y. lt_z y (pos 2)) w8 c.args.sign c.ranges.sign (cc))
