@@ -194,7 +194,8 @@ fn by_parts(rng: &mut Rng, count: &mut Count, mut case: Case) {
     count.edited += case.edits.iter().map(|edit| edit.indices().len()).sum::<usize>();
     let mut agree = same(&by_kernels::edited(&case, &theirs.AtoPAPt), &theirs.Ax);
 
-    agree &= factors(rng, count, &case, &theirs);
+    // draws of its own: a seed gives the other parts the same cases with and without the factor
+    agree &= factors(&mut Rng(rng.0), count, &case, &theirs);
 
     let L = Columns { Lp: &theirs.Lp, Li: &theirs.Li, Lx: &theirs.Lx };
     if !theirs.x.is_empty() {

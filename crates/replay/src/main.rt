@@ -13,7 +13,7 @@ use field::{ROOM, read_one};
 use page::{extent, from};
 use say::text;
 use std::io;
-use std::io::Read;
+use std::io::{ErrorKind, Read};
 use tally::Tally;
 
 // More bytes than the vectors have.
@@ -77,12 +77,32 @@ fn report(rt: &impl Print, page: &[u8]) -> io::Result<()> {
     solves.say(rt, b"solve")
 }
 
+// Reads until the page is full or the input ends, and answers how many bytes came.
+fn fill<R: Read>(reader: &mut R, page: &mut [u8]) -> io::Result<usize> {
+    let mut n: usize = 0;
+    for _ in 0..u64::MAX {
+        if page.len() <= n {
+            return Ok(n);
+        }
+        match reader.read(&mut page[n..]) {
+            Ok(0) => return Ok(n),
+            Ok(more) => n += more,
+            Err(error) => {
+                if error.kind() != ErrorKind::Interrupted {
+                    return Err(error);
+                }
+            }
+        }
+    }
+    Ok(n)
+}
+
 // Reads the page, and reports on it where it fits.
 fn main(rt: HostRuntime) -> io::Result<()> {
-    let mut page = Vec::new(rt.alloc());
-    rt.reader().take(PAGE as u64).read_to_end(&mut page)?;
-    if page.len() < PAGE {
-        report(&rt, &page)
+    let mut page = [0u8; PAGE];
+    let n = fill(&mut rt.reader(), &mut page)?;
+    if n < PAGE {
+        report(&rt, &page[..n])
     } else {
         text(&rt, b"the vectors do not fit\n")
     }
