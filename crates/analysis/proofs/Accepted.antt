@@ -9,7 +9,7 @@ use lib.IntN.{ℤ}
 use lib.ListN.{length, take}
 use Rattle.desk.specs.Lists.{over}
 use Rattle.desk.specs.Desk.{bad_size, first}
-use Rattle.desk.specs.declared.Verdict.TheVariants.{Accepted}
+use Rattle.std.specs.Prelude.{Ok}
 use Rattle.desk.proofs.Both.{good_size}
 use Rattle.desk.proofs.First.{none-given}
 use Rattle.desk.proofs.Over.{take-over}
@@ -20,7 +20,7 @@ use Rattle.analysis.specs.Analysis.{Written, AnalysisLent, analysis_lent, bad_le
 use Rattle.analysis.specs.Steps.{Computable}
 use Rattle.analysis.proofs.Lengths.{Lengths, good_lengths}
 
-module _ (nrows n : ℕ) (A : Csc) (perm : List ℕ) (signs : List ℤ) (out : Written) (a b c : List ℕ) (ok : Accepted ≡ first (analysis_refusals (analysis_lent nrows n A perm signs out (a ∷ b ∷ c ∷ [])))) where
+module _ (nrows n : ℕ) (A : Csc) (perm : List ℕ) (signs : List ℤ) (out : Written) (a b c : List ℕ) (ok : Ok tt ≡ first (analysis_refusals (analysis_lent nrows n A perm signs out (a ∷ b ∷ c ∷ [])))) where
   abbrev l : AnalysisLent
   l = analysis_lent nrows n A perm signs out (a ∷ b ∷ c ∷ [])
 

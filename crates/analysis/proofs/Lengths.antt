@@ -6,7 +6,7 @@ use mathlib.Core.Logic.{◌⊎◌, inl, inr, ⊎_elim}
 use mathlib.Core.List.{List, [], ◌∷◌}
 use lib.IntN.{ℤ}
 use lib.ListN.{length}
-use Rattle.desk.specs.Lists.{any, isnt, short}
+use Rattle.desk.specs.Lists.{isnt, short}
 use Rattle.desk.proofs.Both.{neither, not_both, is_long, has_room}
 use Rattle.csc.specs.Csc.{Csc}
 use Rattle.analysis.specs.Analysis.{Written, analysis_lent, bad_lengths}
@@ -29,7 +29,7 @@ pub record Lengths (n : ℕ) (A : Csc) (perm : List ℕ) (signs : List ℤ) (out
 
 pub good_lengths : (nrows n : ℕ) (A : Csc) (perm : List ℕ) (signs : List ℤ) (out : Written) (a b c : List ℕ) →
     bad_lengths (analysis_lent nrows n A perm signs out (a ∷ b ∷ c ∷ [])) ≡ false → Lengths n A perm signs out a b c
-unfolding bad_lengths any
+unfolding bad_lengths
 good_lengths nrows n A perm signs out a b c e =
     let m = length A.rowval in
     let t0 = isnt (n + 1) A.colptr in

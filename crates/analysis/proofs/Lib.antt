@@ -1,3 +1,3 @@
 pub mod Accepted
 pub mod Lengths
-pub mod Tables
+pub mod Analysed

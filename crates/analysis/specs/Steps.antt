@@ -1,9 +1,7 @@
 -- What the steps of the analysis ask and promise. Assumes nothing.
-use Rattle.std.specs.Prelude.{ℕ, ◌+◌, ◌≤◌, ◌≡◌, true, false, ◌⊎◌, List, [], ℤ, length}
+use Rattle.std.specs.Prelude.{ℕ, ◌+◌, ◌≤◌, ◌≡◌, true, false, ◌⊎◌, List, [], Ok, ℤ, length}
 use Rattle.desk.specs.Lists.{over, total}
-use Rattle.desk.specs.Desk.{first}
-use Rattle.desk.specs.declared.Verdict.{Verdict}
-use Rattle.desk.specs.declared.Verdict.TheVariants.{Accepted}
+use Rattle.desk.specs.Desk.{Verdict, first}
 use Rattle.csc.specs.Csc.{Csc, malformed}
 use Rattle.order.specs.Order.{is_ordering, inverse}
 use Rattle.reorder.specs.Reorder.{reordered}
@@ -13,7 +11,7 @@ use Rattle.analysis.specs.Analysis.{Written, AnalysisLent, analysis_lent, analys
 -- the verdict of the analysis's refusals, and the inverse ordering where it is accepted
 pub record Judged (l : AnalysisLent) (r : Verdict) (iperm₀ iperm : List ℕ) : Type 0 where
   pub verdict : r ≡ first (analysis_refusals l)
-  pub inverted : r ≡ Accepted → iperm ≡ over (inverse l.perm) iperm₀
+  pub inverted : r ≡ Ok tt → iperm ≡ over (inverse l.perm) iperm₀
 
 -- an ordering, signs for each of it or none, and room for them in the new order
 pub record SignsFit (perm : List ℕ) (signs dsigns : List ℤ) : Type 0 where

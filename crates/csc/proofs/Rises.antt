@@ -1,35 +1,29 @@
--- One turn of the test that a list rises, which compares the place j with the one before it: what is left begins at j - 1, so that of
--- no row or one row nothing is left to compare. Assumes nothing.
-use Prim.Native.Nat.{ℕ, suc, ◌+◌, ◌-◌, ◌≤◌, ◌<◌}
-use mathlib.Core.Bool.{Bool, true, false, ◌&&◌}
+-- What is known of each number and the next settles whether a list rises. Assumes nothing.
+use Rattle.std.specs.List.{IsAllAdjacentAnswer}
+use Prim.Native.Nat.{ℕ, zero, suc, ◌<◌}
+use mathlib.Core.Bool.{Bool, true, false, and-false}
 use mathlib.Core.List.{List, [], ◌∷◌}
 use mathlib.Core.Path.{◌≡◌, refl}
+use native.Mathlib.Numerals.{add-one}
 use native.Mathlib.Omega.{arith}
-use borrow.Author.Tests.{lt-ltb, le-ltb}
 use lib.Dec.{ltb}
-use lib.ListN.{length, get_or, drop, length-drop}
-use lib.Seq.{drop-cons}
+use lib.ListN.{length, get_or}
 use Rattle.csc.specs.Csc.{rises}
 
-pair : (l : List ℕ) (i : ℕ) → suc i < length l → rises (drop i l) ≡ ltb (get_or l i 0) (get_or l (suc i) 0) && rises (drop (suc i) l)
+rises_each : (l : List ℕ) → ((k : ℕ) → suc k < length l → true ≡ ltb (get_or l k 0) (get_or l (suc k) 0)) → true ≡ rises l
 unfolding rises
-pair l i h = let k : i < length l = omega arith in rw (drop-cons l i 0 k, drop-cons l (suc i) 0 h)
+rises_each [] h = refl
+rises_each (x ∷ []) h = refl
+rises_each (x ∷ (y ∷ l)) h = rw (← h 0 (omega arith)) (rises_each (y ∷ l) (λ k i. h (suc k) (omega arith)))
 
-short : (l : List ℕ) → length l ≤ 1 → true ≡ rises l
+rises_not : (l : List ℕ) (k : ℕ) → suc k < length l → false ≡ ltb (get_or l k 0) (get_or l (suc k) 0) → false ≡ rises l
 unfolding rises
-short [] h = refl
-short (x ∷ []) h = refl
-short (x ∷ (y ∷ l)) h = absurd (omega arith)
+rises_not [] k i e = absurd (omega arith)
+rises_not (x ∷ []) k i e = absurd (omega arith)
+rises_not (x ∷ (y ∷ l)) zero i e = rw (← e)
+rises_not (x ∷ (y ∷ l)) (suc k) i e = rw (← rises_not (y ∷ l) k (omega arith) e, and-false)
 
-module _ (l : List ℕ) (j : ℕ) (positive : 1 ≤ j) {r : Bool} (left : rises (drop (j - 1) l) ≡ r) where
-  turn : j < length l → ltb (get_or l (j - 1) 0) (get_or l j 0) && rises (drop j l) ≡ r
-  turn h = let e : suc (j - 1) ≡ j = omega arith in let k : suc (j - 1) < length l = omega arith in rw (pair l (j - 1) k, e) at left
-
-  pub rises_found : j < length l → get_or l j 0 ≤ get_or l (j - 1) 0 → false ≡ r
-  rises_found h i = rw (le-ltb _ _ i) at (turn h)
-
-  pub rises_passed : j < length l → get_or l (j - 1) 0 < get_or l j 0 → rises (drop (j + 1 - 1) l) ≡ r
-  rises_passed h i = let e : j + 1 - 1 ≡ j = omega arith in rw e (rw (lt-ltb _ _ i) at (turn h))
-
-  pub rises-done : length l ≤ j → true ≡ r
-  rises-done h = let k : length (drop (j - 1) l) ≤ 1 = simp length-drop (omega arith) in rw left at (short (drop (j - 1) l) k)
+-- the library's answer of a list that is sorted by `<`
+pub rises_answer : (l : List ℕ) (r : Bool) → IsAllAdjacentAnswer (λ x y b. b ≡ ltb x y) l r → r ≡ rises l
+rises_answer l true h = rises_each l (λ k i. rw add-one at (h k 0 (rw add-one i)))
+rises_answer l false (k, i, e) = rises_not l k (rw add-one at i) (rw add-one at (e 0))

@@ -1,6 +1,6 @@
 -- What pointers have that start at 0, do not fall and end at m, and what follows of the part that a column is. Assumes nothing.
 use Prim.Native.Nat.{ℕ, zero, suc, ◌+◌, ◌-◌, ◌<◌, ◌≤◌}
-use mathlib.Core.Path.{◌≡◌}
+use mathlib.Core.Path.{◌≡◌, refl}
 use mathlib.Core.Bool.{false, not, ◌||◌}
 use mathlib.Core.List.{List, [], ◌∷◌}
 use native.Mathlib.Numerals.{add-one}
@@ -9,7 +9,7 @@ use borrow.Author.Tests.{not-false, eqb-true, ltb-false}
 use lib.Dec.{eqb, ltb}
 use lib.ListN.{length, get_or, take, drop, length-drop}
 use lib.Seq.{length-take-le}
-use Rattle.desk.proofs.Any.{none_from}
+use Rattle.desk.proofs.Any.{none_upto}
 use Rattle.desk.proofs.Both.{neither}
 use Rattle.csc.specs.Csc.{column, fall, bad_pointers}
 use Rattle.csc.proofs.Columns.{column_part}
@@ -19,7 +19,7 @@ module _ (n : ℕ) (ptr : List ℕ) where
   unfolding fall
   not_falling s e c h =
       rw (add-one c)
-      (ltb-false _ _ (none_from (λ c. ltb (get_or ptr (suc c) 0) (get_or ptr c 0)) 0 (length ptr - 1) c e (omega arith) (omega arith)))
+      (ltb-false _ _ (none_upto (λ c. ltb (get_or ptr (suc c) 0) (get_or ptr c 0)) (length ptr - 1) c e (omega arith)))
 
   module _ (rises : (c : ℕ) → c < n → get_or ptr c 0 ≤ get_or ptr (c + 1) 0) where
     pub up_to_last : (c k : ℕ) → c + k ≡ n → get_or ptr c 0 ≤ get_or ptr n 0
@@ -64,3 +64,17 @@ module _ {n m : ℕ} {ptr : List ℕ} (S : Steady n m ptr) where
 
       pub part_length : length (take (e - a) (drop a l)) ≡ e - a
       part_length = length-take-le (e - a) (drop a l) (omega (arith, length-drop a l, part_ends))
+
+  -- what `entries` asks of column c, and that it is as long as its pointers are apart
+  module _ {c : ℕ} (h : c < n) where
+    pub column_pointers : c + 1 < length ptr
+    column_pointers = omega (arith, S.pointers)
+
+    pub column_rises : get_or ptr c 0 ≤ get_or ptr (c + 1) 0
+    column_rises = S.rises c h
+
+    pub column_ends : get_or ptr (c + 1) 0 ≤ m
+    column_ends = part_ends h refl refl
+
+    pub column_length : {A : Type 0} (l : List A) → m ≤ length l → length (column ptr l c) ≡ get_or ptr (c + 1) 0 - get_or ptr c 0
+    column_length l long = rw (← part_column h refl refl l long) (part_length h refl refl l long)

@@ -2,6 +2,7 @@
 use Rattle.std.specs.Prelude.{ℕ, suc, ◌-◌, Bool, true, cond, not, ◌&&◌, ◌||◌, List, [], ◌∷◌, leb, ltb, eqb, Float, length, get_or}
 use Rattle.std.proofs.Math.Seq.{slice}
 use Rattle.desk.specs.Lists.{any, upto}
+use Rattle.csc.specs.declared.CscMatrix.{CscMatrix}
 
 -- "n+1 column pointers, then rows and values of the m entries (m is the length of the rows)"
 pub record Csc : Type 0 where
@@ -11,6 +12,10 @@ pub record Csc : Type 0 where
 
 abbrev pub matrix : List ℕ → List ℕ → List Float → Csc
 matrix colptr rowval nzval = record { colptr = colptr; rowval = rowval; nzval = nzval }
+
+-- a matrix as it is lent
+abbrev pub lent : CscMatrix → Csc
+lent a = matrix a.colptr.now a.rowval.now a.nzval.now
 
 -- "the rows of one column as a part of the lent row list, by pointers and column; the part is empty where the column has no next
 -- pointer, its two pointers fall, or the later one passes the list's end" (and likewise its values)

@@ -6,7 +6,7 @@ use native.Mathlib.Nat.{zero-add}
 use native.Mathlib.Numerals.{add-one}
 use native.Mathlib.Omega.{arith}
 use lib.ListN.{length, get_or, take, drop, set, replicate, length-append, length-replicate, get_or-replicate, length-drop, drop_of_length-le, get_or-append}
-use lib.Seq.{paste-suc, take-length, length-take-le, take-append_seam, drop-append_seam}
+use lib.Seq.{paste-suc, take-length, take-append_seam, drop-append_seam}
 use Rattle.desk.specs.Lists.{over}
 
 module _ {A : Type 0} (y x : List A) where
@@ -15,9 +15,6 @@ module _ {A : Type 0} (y x : List A) where
 
   pub front_more : (d : A) (i : ℕ) → i < length y → i < length x → set (front i) i (get_or y i d) ≡ front (i + 1)
   front_more d i hy hx = rw add-one (simp zero-add at (paste-suc x 0 y i d (omega arith) hy))
-
-  pub front_length : (i : ℕ) → i ≤ length y → i ≤ length x → length (front i) ≡ length x
-  front_length i hy hx = length-append (take i y) (drop i x) ∙ omega (arith, length-take-le i y hy, length-drop i x)
 
   pub front_all : (i : ℕ) → i ≡ length y → front i ≡ over y x
   unfolding over
@@ -58,9 +55,6 @@ module _ {A : Type 0} (n : ℕ) (v : A) (x : List A) (long : n ≤ length x) whe
   fill_more i h l e =
       rw e (ap (set (front (replicate n v) x i) i) (sym (get_or-replicate n i v v h))
       ∙ front_more (replicate n v) x v i (omega (arith, length-replicate n v)) (omega arith))
-
-  pub fill_size : (i : ℕ) → i ≤ n → (l : List A) → l ≡ front (replicate n v) x i → length l ≡ length x
-  fill_size i h l e = ap length e ∙ front_length (replicate n v) x i (omega (arith, length-replicate n v)) (omega arith)
 
   pub fill_all : (i : ℕ) → i ≤ n → n ≤ i → (l : List A) → l ≡ front (replicate n v) x i → l ≡ over (replicate n v) x
   fill_all i h g l e = e ∙ front_all (replicate n v) x i (omega (arith, length-replicate n v))

@@ -1,9 +1,7 @@
 -- Document 01: the limits, the numbers that the desk sends back, and the rule which of them is given. Assumes nothing.
-use Rattle.std.specs.Prelude.{ℕ, zero, suc, Bool, true, false, cond, ◌||◌, List, [], ◌∷◌, ltb, eqb, ℤ, pos, negsuc}
+use Rattle.std.specs.Prelude.{ℕ, zero, suc, Bool, true, false, cond, ◌||◌, List, [], ◌∷◌, Result, Ok, Err, ltb, eqb, ℤ, pos, negsuc}
 use Rattle.desk.specs.declared.Refusal.{Refusal}
 use Rattle.desk.specs.declared.Refusal.TheVariants.{NotReady, IncompatibleDimension, BadSize, BadLength, MalformedMatrix, NotUpperTriangular, EmptyColumn, UnsortedColumn, InvalidPermutation, BadSign, Spoiled, BadIndex, NoRoom, ZeroPivot}
-use Rattle.desk.specs.declared.Verdict.{Verdict}
-use Rattle.desk.specs.declared.Verdict.TheVariants.{Accepted, Refused}
 
 infixr 10 ◌⇒◌⨾◌
 -- "n is 1 to 2,048; m is at most 65,536."
@@ -71,7 +69,11 @@ pub record Line : Type 0 where
 abbrev pub ◌⇒◌⨾◌ : Bool → Refusal → List Line → List Line
 test ⇒ refusal ⨾ lines = record { applies = test; gives = refusal } ∷ lines
 
+-- what a call's list of refusals comes to
+abbrev pub Verdict : Type 0
+Verdict = Result (Unit {0}) Refusal
+
 -- "The lowest number that applies is given": the first line of the table that applies; "0, Ok: none below applies"
 unfoldable pub first : List Line → Verdict
-first [] = Accepted
-first (line ∷ lines) = cond line.applies (Refused line.gives) (first lines)
+first [] = Ok tt
+first (line ∷ lines) = cond line.applies (Err line.gives) (first lines)

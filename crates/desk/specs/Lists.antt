@@ -1,5 +1,6 @@
 -- The few words on lists that the definitions use beside the library's. Assumes nothing.
-use Rattle.std.specs.Prelude.{ℕ, zero, suc, ◌+◌, Bool, true, false, cond, not, ◌&&◌, ◌||◌, List, [], ◌∷◌, ◌++◌, ltb, eqb, length, drop}
+use Rattle.std.specs.List.{list_any, list_all, range_with_len}
+use Rattle.std.specs.Prelude.{filter, ℕ, zero, suc, ◌+◌, Bool, cond, not, List, [], ◌∷◌, ◌++◌, ltb, eqb, length, drop}
 
 -- the k numbers from i on
 unfoldable pub from : ℕ → ℕ → List ℕ
@@ -8,23 +9,20 @@ from i (suc k) = i ∷ from (suc i) k
 
 -- 0, 1, .., n - 1
 abbrev pub upto : ℕ → List ℕ
-upto n = from 0 n
+upto n = range_with_len 0 n
 
 module _ {A : Type 0} where
   -- one of the list passes the test
-  unfoldable pub any : (A → Bool) → List A → Bool
-  any p [] = false
-  any p (x ∷ xs) = p x || any p xs
+  abbrev pub any : (A → Bool) → List A → Bool
+  any = list_any
 
   -- each of the list passes the test
-  unfoldable pub all : (A → Bool) → List A → Bool
-  all p [] = true
-  all p (x ∷ xs) = p x && all p xs
+  abbrev pub all : (A → Bool) → List A → Bool
+  all = list_all
 
   -- those that pass the test, in their order
-  unfoldable pub keep : (A → Bool) → List A → List A
-  keep p [] = []
-  keep p (x ∷ xs) = cond (p x) (x ∷ keep p xs) (keep p xs)
+  abbrev pub keep : (A → Bool) → List A → List A
+  keep = filter
 
   -- the lists one after the other
   unfoldable pub join_all : List (List A) → List A

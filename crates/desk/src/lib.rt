@@ -5,12 +5,15 @@ ghost use Rattle.std.specs.Prelude.{◌≡◌, ◌≤◌, [], ◌∷◌, length,
 ghost use Rattle.desk.specs.Desk.{number_of, bad_size, bad_sign};
 ghost use Rattle.desk.specs.Lists.{any, short, over};
 
+use std::error::Error;
+use std::fmt;
+
 pub const MAX_N: usize = 2048;
 
 pub const MAX_M: usize = 65536;
 
 // What a call refuses with. NoRoom has the entries that L needs, ZeroPivot the row of the pivot.
-#[derive(Clone, Copy)]
+#[derive(Clone, Copy, Debug, PartialEq, Eq)]
 pub enum Refusal {
     NotReady,
     IncompatibleDimension,
@@ -28,34 +31,54 @@ pub enum Refusal {
     ZeroPivot(u32),
 }
 
-// What a call's list of refusals comes to.
-#[derive(Clone, Copy)]
-pub enum Verdict {
-    Accepted,
-    Refused(Refusal),
-}
+// Its number.
+impl From<Refusal> for u8 {
+    ghost from_gives = { λ refusal number. number ≡ number_of refusal };
 
-// The number of a refusal.
-pub fn number(refusal: Refusal) -> u8
-    ensures { result ≡ number_of refusal }
-{
-    match refusal {
-        Refusal::NotReady => 1,
-        Refusal::IncompatibleDimension => 2,
-        Refusal::BadSize => 3,
-        Refusal::BadLength => 4,
-        Refusal::MalformedMatrix => 5,
-        Refusal::NotUpperTriangular => 6,
-        Refusal::EmptyColumn => 7,
-        Refusal::UnsortedColumn => 8,
-        Refusal::InvalidPermutation => 9,
-        Refusal::BadSign => 10,
-        Refusal::Spoiled => 11,
-        Refusal::BadIndex => 12,
-        Refusal::NoRoom(_) => 13,
-        Refusal::ZeroPivot(_) => 14,
+    fn from(refusal: Refusal) -> u8 {
+        match refusal {
+            Refusal::NotReady => 1,
+            Refusal::IncompatibleDimension => 2,
+            Refusal::BadSize => 3,
+            Refusal::BadLength => 4,
+            Refusal::MalformedMatrix => 5,
+            Refusal::NotUpperTriangular => 6,
+            Refusal::EmptyColumn => 7,
+            Refusal::UnsortedColumn => 8,
+            Refusal::InvalidPermutation => 9,
+            Refusal::BadSign => 10,
+            Refusal::Spoiled => 11,
+            Refusal::BadIndex => 12,
+            Refusal::NoRoom(_) => 13,
+            Refusal::ZeroPivot(_) => 14,
+        }
     }
 }
+
+// Its name, and what it says in words.
+impl fmt::Display for Refusal {
+    fn fmt<W: fmt::Write>(&self, f: &mut fmt::Formatter<W>) -> fmt::Result {
+        f.write_str(match self {
+            Refusal::NotReady => "NotReady",
+            Refusal::IncompatibleDimension => "IncompatibleDimension: rows differ from columns",
+            Refusal::BadSize => "BadSize: too few or too many",
+            Refusal::BadLength => "BadLength: a list is not as long as it should be",
+            Refusal::MalformedMatrix => "MalformedMatrix: the pointers or a row do not fit",
+            Refusal::NotUpperTriangular => "NotUpperTriangular: a row exceeds its column",
+            Refusal::EmptyColumn => "EmptyColumn: a column has no entry",
+            Refusal::UnsortedColumn => "UnsortedColumn: the rows of a column do not rise",
+            Refusal::InvalidPermutation =>
+                "InvalidPermutation: the ordering is not each number once",
+            Refusal::BadSign => "BadSign: a sign is none of -1, 0, 1",
+            Refusal::Spoiled => "Spoiled: a table is not what it should be",
+            Refusal::BadIndex => "BadIndex: an index names no entry",
+            Refusal::NoRoom(_) => "NoRoom: L is too short",
+            Refusal::ZeroPivot(_) => "ZeroPivot",
+        })
+    }
+}
+
+impl Error for Refusal {}
 
 // Refusal 3, BadSize, in the analysis.
 pub fn bad_size(n: usize, m: usize) -> bool
@@ -78,15 +101,7 @@ pub fn bad_sign(sign: i8) -> bool
 pub fn bad_signs(signs: &[i8]) -> bool
     ensures { result ≡ any bad_sign signs.now }
 {
-    let mut i: usize = 0;
-    while i < signs.len() {
-        let sign = signs[i];
-        if bad_sign(sign) {
-            return true;
-        }
-        i += 1;
-    }
-    false
+    signs.iter().any(|sign| bad_sign(*sign))
 }
 
 // Whether one of the three parts of u32 scratch is shorter than n.
@@ -96,7 +111,7 @@ pub fn short_scratch(n: usize, a: &[u32], b: &[u32], c: &[u32]) -> bool
     (a.len() < n) | (b.len() < n) | (c.len() < n)
 }
 
-// A table's number as an index.
+// A table's number as an index, since no `From` leads from u32 to usize.
 pub fn wide(x: u32) -> usize
     ensures { result ≡ x }
 {
@@ -104,37 +119,11 @@ pub fn wide(x: u32) -> usize
 }
 
 // Writes v to the first n places of a table.
-pub fn fill(xs: &mut [u32], n: usize, v: u32)
+pub fn fill<T: Copy>(xs: &mut [T], n: usize, v: T)
     requires { n ≤ length xs.old }
     ensures { xs.new ≡ over (replicate n v) xs.old }
 {
-    let mut i: usize = 0;
-    while i < n {
-        xs[i] = v;
-        i += 1;
-    }
-}
-
-// Writes v to the first n places of a table of bytes.
-pub fn fill_bytes(xs: &mut [u8], n: usize, v: u8)
-    requires { n ≤ length xs.old }
-    ensures { xs.new ≡ over (replicate n v) xs.old }
-{
-    let mut j: usize = 0;
-    while j < n {
-        xs[j] = v;
-        j += 1;
-    }
-}
-
-// Writes v to the first n places of a table of floats.
-pub fn fill_floats(xs: &mut [f64], n: usize, v: f64)
-    requires { n ≤ length xs.old }
-    ensures { xs.new ≡ over (replicate n v) xs.old }
-{
-    let mut k: usize = 0;
-    while k < n {
-        xs[k] = v;
-        k += 1;
+    for x in &mut xs[..n] {
+        *x = v;
     }
 }

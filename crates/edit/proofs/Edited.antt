@@ -1,19 +1,12 @@
--- An edit index by index: the place that a turn of the loop takes is one of the values, a turn is a step of the definition, and at the end
--- nothing is left. Assumes nothing.
+-- An edit index by index: a turn of the loop is a step of the definition, and at the end nothing is left. Assumes nothing.
 use Prim.Native.Nat.{ℕ, ◌+◌, ◌<◌, ◌≤◌}
 use mathlib.Core.Path.{◌≡◌}
 use mathlib.Core.List.{List}
 use native.Mathlib.Numerals.{add-one}
-use native.Mathlib.Omega.{arith}
 use lib.Ieee.{Float, nan}
 use lib.ListN.{length, get_or, drop, set, drop_of_length-le}
 use lib.Seq.{drop-cons}
 use Rattle.edit.specs.Edit.{edited}
-use Rattle.edit.specs.Kernels.{Editable}
-
-pub edited-inside : {map indices : List ℕ} {vals : List Float} → Editable map indices vals → {n : ℕ} → n ≡ length vals → (j : ℕ) →
-    j < length indices → {p : ℕ} → p ≡ get_or map (get_or indices j 0) 0 → p < n
-edited-inside E s j h q = omega (arith, E.mapped _ (E.indexed j h))
 
 module _ {A : Type 0} (f : A → Float → Float) (map indices : List ℕ) (args : List A) (vals : List Float) (j : ℕ) {r : List Float}
     (left : edited f map (drop j indices) (drop j args) vals ≡ r) where

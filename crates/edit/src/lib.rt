@@ -3,6 +3,8 @@
 //   indices   i i . . i      places of the caller's values, in any order, a place as often as it stands there
 //   map       p p p . p      the place of each in the permuted values
 //   vals      v v v . v      the permuted values
+//
+// They come one by one: three words at a call, of which a type of their own would say no more.
 #![tactic(auto)]
 
 ghost use Rattle.std.specs.Prelude.{◌≡◌, ◌<◌, length, get_or};
@@ -11,14 +13,12 @@ ghost use Rattle.edit.specs.Kernels.{Editable};
 
 use desk::wide;
 
-// The place in the permuted values of the j-th index.
-fn place(map: &[u32], indices: &[u32], j: usize) -> usize
-    requires j_in_bounds { j < length indices.now }
-    requires j_in_bounds_2 { get_or indices.now j 0 < length map.now }
-    ensures { result ≡ get_or map.now (get_or indices.now j 0) 0 }
+// The place in the permuted values of an index.
+fn place(map: &[u32], index: u32) -> usize
+    requires { index < length map.now }
+    ensures { result ≡ get_or map.now index 0 }
 {
-    let i = wide(indices[j]);
-    wide(map[i])
+    wide(map[wide(index)])
 }
 
 // What an offset makes of the value old: a sign above 0 adds, one below 0 subtracts.
@@ -38,11 +38,9 @@ pub fn update_values(map: &[u32], indices: &[u32], values: &[f64], vals: &mut [f
     requires values_len { length values.now ≡ length indices.now }
     ensures { vals.new ≡ updated map.now indices.now values.now vals.old }
 {
-    let mut j: usize = 0;
-    while j < indices.len() {
-        let p = place(map, indices, j);
-        vals[p] = values[j];
-        j += 1;
+    for (index, value) in indices.iter().zip(values) {
+        let p = place(map, *index);
+        vals[p] = *value;
     }
 }
 
@@ -51,11 +49,9 @@ pub fn scale_values(map: &[u32], indices: &[u32], scale: f64, vals: &mut [f64])
     requires { Editable map.now indices.now vals.old }
     ensures { vals.new ≡ scaled map.now indices.now scale vals.old }
 {
-    let mut j: usize = 0;
-    while j < indices.len() {
-        let p = place(map, indices, j);
+    for index in indices {
+        let p = place(map, *index);
         vals[p] = vals[p] * scale;
-        j += 1;
     }
 }
 
@@ -65,11 +61,8 @@ pub fn offset_values(map: &[u32], indices: &[u32], offset: f64, signs: &[i8], va
     requires signs_len { length signs.now ≡ length indices.now }
     ensures { vals.new ≡ offsetted map.now indices.now offset signs.now vals.old }
 {
-    let mut j: usize = 0;
-    while j < indices.len() {
-        let p = place(map, indices, j);
-        let sign = signs[j];
-        vals[p] = offset_by(offset, sign, vals[p]);
-        j += 1;
+    for (index, sign) in indices.iter().zip(signs) {
+        let p = place(map, *index);
+        vals[p] = offset_by(offset, *sign, vals[p]);
     }
 }

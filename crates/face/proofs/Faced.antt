@@ -7,8 +7,7 @@ use borrow.Author.Tests.{lt-ltb, le-ltb}
 use lib.ListN.{length, get_or}
 use Rattle.analysis.specs.Analysis.{Written, AnalysisLent}
 use Rattle.qdldl.specs.declared.Status.{Status}
-use Rattle.qdldl.specs.declared.Answer.{Answer}
-use Rattle.qdldl.specs.Calls.{Settles, answer_number, answer_values}
+use Rattle.qdldl.specs.Calls.{Answer, Settles, answer_number, answer_values}
 use Rattle.qdldl.specs.Analysing.{analysis}
 use Rattle.face.specs.Face.{status_of, faced, words_after, Faces}
 

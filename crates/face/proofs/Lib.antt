@@ -1,2 +1,1 @@
 pub mod Faced
-pub mod Words

@@ -1,13 +1,12 @@
 -- The C face: what each lent word means, and what the analysis leaves in the words. Assumes nothing.
-use Rattle.std.specs.Prelude.{ℕ, ◌≡◌, cond, List, [], ◌∷◌, ltb, eqb, length, get_or}
+use Rattle.std.specs.Prelude.{ℕ, ◌≡◌, cond, List, [], ◌∷◌, Ok, Err, ltb, eqb, length, get_or}
 use Rattle.desk.specs.Lists.{over}
 use Rattle.desk.specs.declared.Refusal.TheVariants.{BadLength}
 use Rattle.analysis.specs.Analysis.{Written, AnalysisLent}
 use Rattle.qdldl.specs.declared.Phase.{Phase}
 use Rattle.qdldl.specs.declared.Phase.TheVariants.{Empty, Analysed, Logical, Numeric, Failed}
 use Rattle.qdldl.specs.declared.Status.{Status}
-use Rattle.qdldl.specs.declared.Answer.{Answer}
-use Rattle.qdldl.specs.Calls.{Outcome, outcome, status, answer_number, answer_values}
+use Rattle.qdldl.specs.Calls.{Answer, refuse, Outcome, outcome, status, answer_number, answer_values}
 use Rattle.qdldl.specs.Analysing.{analysis}
 
 -- the phase as a word: 0 Empty, 1 Analysed, 2 Logical, 3 Numeric, 4 Failed; any other word is read as Empty
@@ -30,12 +29,12 @@ words_of s = word_of s.phase ∷ s.n ∷ s.m ∷ s.nnzl ∷ s.inertia ∷ s.shif
 
 -- fewer than six words are refused 4; else the analysis from the status that they say
 unfoldable pub faced : List ℕ → AnalysisLent → Outcome Written
-faced ws l = cond (ltb (length ws) 6) (outcome (Answer.Refused BadLength (status_of ws)) l.out) (analysis (status_of ws) l)
+faced ws l = cond (ltb (length ws) 6) (outcome (Err (refuse BadLength (status_of ws))) l.out) (analysis (status_of ws) l)
 
 -- the words afterwards: the next status where the call is done, and kept where it is refused
 abbrev pub words_after : Answer → List ℕ → List ℕ
-words_after (Answer.Done s) ws = over (words_of s) ws
-words_after (Answer.Refused r s) ws = ws
+words_after (Ok s) ws = over (words_of s) ws
+words_after (Err e) ws = ws
 
 -- the promise of the face: the number, the word for a refusal's value (0 where it has none), the status words, and the tables
 pub record Faces (o : Outcome Written) (number value : ℕ) (ws₀ ws : List ℕ) (t : Written) : Type 0 where

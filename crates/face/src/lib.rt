@@ -1,4 +1,5 @@
-// The C face of the calls, which `face_c` exports; include/coinravel.h says the same in C.
+// The C face of the calls, which `face_c` exports; include/coinravel.h says the same in C. Lists, numbers and words are those of C, and each
+// stands by itself.
 #![tactic(auto)]
 
 ghost use Rattle.std.specs.Prelude.{◌≤◌, ◌≡◌, [], ◌∷◌, length, get_or};
@@ -8,13 +9,16 @@ ghost use Rattle.csc.specs.Csc.{matrix};
 ghost use Rattle.analysis.specs.Analysis.{written, analysis_lent};
 ghost use Rattle.face.specs.Face.{word_of, phase_of, status_of, words_of, Faces, faced};
 
+use analysis::Tables;
+use csc::CscMatrix;
 use desk::Refusal;
-use qdldl::{Answer, Phase, Status};
+use qdldl::{Phase, Refused, Status};
 
 // The words of a status.
 const STATUS_WORDS: usize = 6;
 
-// The phase that a word says.
+// The phase that a word says. No `From`, here and below: types and words are another crate's, which knows nothing of the words of C.
+#[tactic(auto, unfolding(crate::specs::Face::phase_of))]
 fn phase_of(word: u64) -> Phase
     ensures { result ≡ phase_of word }
 {
@@ -27,27 +31,14 @@ fn phase_of(word: u64) -> Phase
     }
 }
 
-// The word that says a phase.
-fn word_of(phase: Phase) -> u64
-    ensures { result ≡ word_of phase }
-{
-    match phase {
-        Phase::Empty => 0,
-        Phase::Analysed => 1,
-        Phase::Logical => 2,
-        Phase::Numeric => 3,
-        Phase::Failed => 4,
-    }
-}
-
 // The status that six words say.
+#[tactic(auto, unfolding(crate::specs::Face::status_of))]
 fn status_of(words: &[u64]) -> Status
     requires { 6 ≤ length words.now }
     ensures { result ≡ status_of words.now }
 {
-    let phase = phase_of(words[0]);
     Status {
-        phase,
+        phase: phase_of(words[0]),
         n: words[1] as usize,
         m: words[2] as usize,
         nnzl: words[3] as usize,
@@ -57,38 +48,29 @@ fn status_of(words: &[u64]) -> Status
 }
 
 // Writes a status to the first six words.
+#[tactic(auto, unfolding(crate::specs::Face::words_of, desk::specs::Lists::over))]
 fn write_status(words: &mut [u64], s: Status)
     requires { 6 ≤ length words.old }
     ensures { words.new ≡ over (words_of s) words.old }
 {
-    let phase = s.phase;
-    words[0] = word_of(phase);
-    words[1] = s.n as u64;
-    words[2] = s.m as u64;
-    words[3] = s.nnzl as u64;
-    words[4] = s.inertia as u64;
-    words[5] = s.shifts as u64;
+    words[..6].copy_from_slice(&[
+        s.phase as u64,
+        s.n as u64,
+        s.m as u64,
+        s.nnzl as u64,
+        s.inertia as u64,
+        s.shifts as u64,
+    ]);
 }
 
-// A refusal's value, 0 where it has none.
+// A refusal's value, 0 where it has none, as C has no option.
 fn value_of(refusal: Refusal) -> u64
     ensures { result ≡ get_or (values_of refusal) 0 0 }
 {
     match refusal {
-        Refusal::NotReady => 0,
-        Refusal::IncompatibleDimension => 0,
-        Refusal::BadSize => 0,
-        Refusal::BadLength => 0,
-        Refusal::MalformedMatrix => 0,
-        Refusal::NotUpperTriangular => 0,
-        Refusal::EmptyColumn => 0,
-        Refusal::UnsortedColumn => 0,
-        Refusal::InvalidPermutation => 0,
-        Refusal::BadSign => 0,
-        Refusal::Spoiled => 0,
-        Refusal::BadIndex => 0,
-        Refusal::NoRoom(needed) => needed as u64,
-        Refusal::ZeroPivot(row) => row as u64,
+        Refusal::NoRoom(needed) => u64::from(needed),
+        Refusal::ZeroPivot(row) => u64::from(row),
+        _ => 0,
     }
 }
 
@@ -118,22 +100,33 @@ pub fn coinravel_analyse(
 {
     if status.len() < STATUS_WORDS {
         *value = 0;
-        return desk::number(Refusal::BadLength) as u32;
+        return u32::from(u8::from(Refusal::BadLength));
     }
+    let a = CscMatrix {
+        colptr,
+        rowval,
+        nzval,
+    };
+    let mut out = Tables {
+        pc,
+        pr,
+        pv,
+        map,
+        etree,
+        lnz,
+        dsigns,
+    };
     let before = status_of(&status[..]);
-    let answer = before.analyse(
-        nrows, n, colptr, rowval, nzval, perm, signs, pc, pr, pv, map, etree, lnz, dsigns, iperm,
-        next, work,
-    );
+    let answer = before.analyse(nrows, n, &a, perm, signs, &mut out, iperm, next, work);
     match answer {
-        Answer::Done(after) => {
+        Ok(after) => {
             write_status(status, after);
             *value = 0;
             0
         }
-        Answer::Refused(refusal, _) => {
+        Err(Refused { refusal, .. }) => {
             *value = value_of(refusal);
-            desk::number(refusal) as u32
+            u32::from(u8::from(refusal))
         }
     }
 }

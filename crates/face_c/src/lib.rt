@@ -1,4 +1,5 @@
-// The archive of the C face: its export is its namesake of `face`; include/coinravel.h says the same in C.
+// The archive of the C face: its export is its namesake of `face`, with its clauses, since no crate can stand on an archive;
+// include/coinravel.h says the same in C.
 #![tactic(auto)]
 
 ghost use Rattle.std.specs.Prelude.{[], ◌∷◌};

@@ -9,6 +9,7 @@ use lib.IntN.{ℤ}
 use lib.Ieee.{Float}
 use lib.ListN.{length, get_or, take, drop, replicate, length-replicate, take-append-drop}
 use lib.Seq.{length-take-le, get_or-take, take_all, take-append-le, drop-append-le, drop-append_seam}
+use Rattle.std.specs.Prelude.{Result}
 use Rattle.desk.specs.Lists.{sums, over}
 use Rattle.desk.proofs.Over.{take-written}
 use Rattle.csc.specs.Csc.{Csc}
@@ -17,7 +18,8 @@ use Rattle.tree.proofs.Later.{length-counts, later-none}
 use Rattle.tree.proofs.Strikes.{counts_fit}
 use Rattle.pivot.specs.declared.Regularisation.{Regularisation}
 use Rattle.pivot.specs.Pivots.{+0}
-use Rattle.row.specs.declared.Step.{Step}
+use Rattle.row.specs.declared.Progress.{Progress}
+use Rattle.row.specs.declared.ZeroPivot.{ZeroPivot}
 use Rattle.row.specs.Kernels.{Free}
 use Rattle.row.proofs.Laid.{laid_nothing}
 use Rattle.row.proofs.OfL.{over-long, length-pointers, pointer_most}
@@ -142,7 +144,7 @@ module _ (A : Csc) (etree lnz : List ℕ) (t : Tables) (next order marks : List 
           zeros = rw long (filled_front n +0 t.d d' ed);
         }
 
-    module _ (reg : Regularisation) (li' : List ℕ) (lx' d'' dinv' : List Float) (r : Step)
+    module _ (reg : Regularisation) (li' : List ℕ) (lx' d'' dinv' : List Float) (r : Result Progress ZeroPivot)
         (x : Ran (length (take n y')) A (whole (length (take n y')) A etree dsigns reg) t.li li' t.lx lx' d'' (take n t.dinv) dinv' r)
         (sd : length d'' ≡ length (take n d')) (sv : length dinv' ≡ length (take n t.dinv)) where
       abbrev w : Work

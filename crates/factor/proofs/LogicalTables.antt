@@ -8,10 +8,10 @@ use lib.Ieee.{Float, nan}
 use lib.ListN.{length, get_or, take, drop, set, replicate, length-map, length-set}
 use lib.Seq.{length-take-le}
 use Rattle.desk.specs.Lists.{from, over, sums, total}
-use Rattle.desk.proofs.Over.{front, front_more, front_length, front_all, get_d_over}
+use Rattle.desk.proofs.Over.{front, front_more, front_all, get_d_over}
 use Rattle.desk.proofs.Upto.{length_from, get_or-from}
 use Rattle.csc.specs.Csc.{Csc, column}
-use Rattle.csc.proofs.Steady.{Steady, steady, part_rises, part_ends, part_column, part_length}
+use Rattle.csc.proofs.Steady.{Steady, steady, column_pointers, column_rises, column_ends, column_length}
 use Rattle.tree.specs.Strike.{entry, rows_of_l, pointers_of_l}
 use Rattle.tree.proofs.Entries.{column-entries}
 use Rattle.pivot.specs.Pivots.{+0, one}
@@ -94,25 +94,30 @@ module _ (n : ℕ) (A : Csc) (d₀ : List Float) (b : Stored n A d₀) where
   pub diagonals_start : set d₀ 0 +0 ≡ written 1
   diagonals_start = first_front +0 (drop 1 (diagonals_of n A)) d₀ (omega (arith, b.least, b.room))
 
-  pub diagonals_size : (k : ℕ) → k ≤ n → (d : List Float) → d ≡ written k → length d ≡ length d₀
-  diagonals_size k h d e =
-      ap length e ∙ front_length (diagonals_of n A) (set d₀ 0 +0) k (omega (arith, length_diagonals n A b.least)) (omega (arith, room)) ∙ length-set d₀ 0 +0
+  S : Steady n (length A.rowval) A.colptr
+  S = steady n (length A.rowval) A.colptr b.pointers b.steady
 
-  -- column k is lent as the part from a to e
-  module _ (k a e : ℕ) (pos : 0 < k) (h : k < n) (p : a ≡ get_or A.colptr k 0) (q : e ≡ get_or A.colptr (k + 1) 0) where
-    S : Steady n (length A.rowval) A.colptr
-    S = steady n (length A.rowval) A.colptr b.pointers b.steady
+  module _ (k : ℕ) (h : k < n) where
+    pub in_pointers : k + 1 < length A.colptr
+    in_pointers = column_pointers S h
 
-    pub from_to : (a ≤ e) × (e ≤ length A.rowval) × (e ≤ length A.nzval)
-    from_to = (part_rises S h p q, part_ends S h p q, omega (arith, b.values, part_ends S h p q))
+    pub rises : get_or A.colptr k 0 ≤ get_or A.colptr (k + 1) 0
+    rises = column_rises S h
 
-    pub parts_even : length (take (e - a) (drop a A.rowval)) ≡ length (take (e - a) (drop a A.nzval))
-    parts_even = part_length S h p q A.rowval (omega arith) ∙ sym (part_length S h p q A.nzval (omega (arith, b.values)))
+    pub in_rows : get_or A.colptr (k + 1) 0 ≤ length A.rowval
+    in_rows = column_ends S h
 
-    pub diagonals_more : (d : List Float) → d ≡ written k → (v : Float) →
-        v ≡ diagonal k (take (e - a) (drop a A.rowval)) (take (e - a) (drop a A.nzval)) +0 → set d k v ≡ written (k + 1)
+    pub in_values : get_or A.colptr (k + 1) 0 ≤ length A.nzval
+    in_values = omega (arith, in_rows, b.values)
+
+  -- the rows and values of column k, as they are lent
+  module _ (k : ℕ) (pos : 0 < k) (h : k < n) {rows : List ℕ} {vals : List Float} (p : rows ≡ column A.colptr A.rowval k) (q : vals ≡ column A.colptr A.nzval k) where
+    pub parts_even : length rows ≡ length vals
+    parts_even = rw (p, q) (column_length S h A.rowval (omega arith) ∙ sym (column_length S h A.nzval (omega (arith, b.values))))
+
+    pub diagonals_more : (d : List Float) → d ≡ written k → (v : Float) → v ≡ diagonal k rows vals +0 → set d k v ≡ written (k + 1)
     diagonals_more d i v f =
-        rw (i, f, part_column S h p q A.rowval (omega arith), part_column S h p q A.nzval (omega (arith, b.values)), ← diagonal-at n A k pos h)
+        rw (i, f, p, q, ← diagonal-at n A k pos h)
         (front_more (diagonals_of n A) (set d₀ 0 +0) nan k (omega (arith, length_diagonals n A b.least)) (omega (arith, room)))
 
   pub diagonals_done : (k : ℕ) → k ≤ n → n ≤ k → (d : List Float) → d ≡ written k → d ≡ over (diagonals_of n A) d₀

@@ -11,6 +11,7 @@ use lib.IntN.{ℤ, pos}
 use lib.Ieee.{Float, nan}
 use lib.ListN.{length, get_or, set, take, drop, replicate, length-append}
 use lib.Seq.{set_at, drop-cons}
+use Rattle.std.specs.Prelude.{Result, Ok, Err}
 use Rattle.desk.specs.Lists.{from, over}
 use Rattle.desk.proofs.Over.{take-written}
 use Rattle.csc.specs.Csc.{Csc}
@@ -19,33 +20,32 @@ use Rattle.pivot.specs.declared.Regularisation.{Regularisation}
 use Rattle.pivot.specs.declared.Pivot.{Pivot}
 use Rattle.pivot.specs.Pivots.{pivot_of, is_zero, is_positive, +0}
 use Rattle.row.specs.declared.Progress.{Progress}
-use Rattle.row.specs.declared.Step.{Step}
-use Rattle.row.specs.declared.Step.TheVariants.{Done, ZeroPivot}
+use Rattle.row.specs.declared.ZeroPivot.{ZeroPivot}
 use Rattle.row.specs.Row.{Row, row_of_matrix}
 use Rattle.row.specs.Kernels.{Held}
-use Rattle.row.specs.Steps.{plus, progress, step_of, Counted, Pivoted, Ready, Stepped}
+use Rattle.row.specs.Steps.{plus, progress, zero_pivot, step_of, Counted, Pivoted, Ready, Stepped}
 use Rattle.factor.specs.Factor.{Work, begun, row_at, pivoted, run}
 use Rattle.factor.specs.Steps.{lists_of, whole, Runnable, Ran}
 use Rattle.factor.proofs.Runs.{row_at-is, graph, ran, step, run_step, run-whole, Going, begun_going, step_going}
 
 -- ---- what a step says
 
-pick_done : (b : Bool) (a c t : Progress) → Done t ≡ cond b (ZeroPivot a) (Done c) → (b ≡ false) × (t ≡ c)
-pick_done true a c t e = absurd (let z : ◌≡◌ {A = ℕ} 0 1 = cc in omega arith)
-pick_done false a c t e = (refl, cc)
+pick_done : (b : Bool) (z : ZeroPivot) (c t : Progress) → Ok t ≡ cond b (Err z) (Ok c) → (b ≡ false) × (t ≡ c)
+pick_done true z c t e = cc
+pick_done false z c t e = (refl, cc)
 
-pick_zero : (b : Bool) (a c t : Progress) → ZeroPivot t ≡ cond b (ZeroPivot a) (Done c) → (b ≡ true) × (t ≡ a)
-pick_zero true a c t e = (refl, cc)
-pick_zero false a c t e = absurd (let z : ◌≡◌ {A = ℕ} 0 1 = cc in omega arith)
+pick_zero : (b : Bool) (z u : ZeroPivot) (c : Progress) → Err u ≡ cond b (Err z) (Ok c) → (b ≡ true) × (u ≡ z)
+pick_zero true z u c e = (refl, cc)
+pick_zero false z u c e = cc
 
-step_done : (p : Pivot) (t u : Progress) → Done u ≡ step_of p t →
+step_done : (p : Pivot) (t u : Progress) → Ok u ≡ step_of p t →
     (is_zero p.value ≡ false) × (u ≡ progress (t.row + 1) (plus t.inertia (is_positive p.value)) (plus t.shifts p.shifted))
 unfolding step_of
 step_done p t u e = pick_done (is_zero p.value) _ _ u e
 
-step_zero : (p : Pivot) (t u : Progress) → ZeroPivot u ≡ step_of p t → (is_zero p.value ≡ true) × (u ≡ progress t.row 0 (plus t.shifts p.shifted))
+step_zero : (p : Pivot) (t : Progress) (u : ZeroPivot) → Err u ≡ step_of p t → (is_zero p.value ≡ true) × (u ≡ zero_pivot t.row (plus t.shifts p.shifted))
 unfolding step_of
-step_zero p t u e = pick_zero (is_zero p.value) _ _ u e
+step_zero p t u e = pick_zero (is_zero p.value) _ u _ e
 
 plus_most : (k m : ℕ) (b : Bool) → k ≤ m → plus k b ≤ m + 1
 plus_most k m true h = omega arith
@@ -120,7 +120,7 @@ module _ (A : Csc) (etree : List ℕ) (dsigns : List ℤ) (reg : Regularisation)
         }
 
     -- after the last row
-    pub run_end : length y₀ ≤ t.row → Ran (length y₀) A (whole (length y₀) A etree dsigns reg) li₀ li lx₀ lx d dinv₀ dinv (Done t)
+    pub run_end : length y₀ ≤ t.row → Ran (length y₀) A (whole (length y₀) A etree dsigns reg) li₀ li lx₀ lx d dinv₀ dinv (Ok t)
     run_end h =
         let e : t.row ≡ length y₀ = omega (arith, w.most) in
         let same : ran (length y₀) A dsigns reg t.row ≡ whole (length y₀) A etree dsigns reg = rw (e, b.ready.tree) in
@@ -133,7 +133,7 @@ module _ (A : Csc) (etree : List ℕ) (dsigns : List ℤ) (reg : Regularisation)
         })
 
     -- a row more
-    module _ (h : t.row < length y₀) (li' next' marks' : List ℕ) (lx' d' dinv' y' : List Float) (r : Step)
+    module _ (h : t.row < length y₀) (li' next' marks' : List ℕ) (lx' d' dinv' y' : List Float) (r : Result Progress ZeroPivot)
         (x : Stepped (lists_of (ran (length y₀) A dsigns reg t.row) li₀ lx₀) t (length y) A etree dsigns reg lp li' next' marks' lx' d d' dinv dinv' y' r) where
       abbrev so_far : Work
       so_far = ran (length y₀) A dsigns reg t.row
@@ -168,15 +168,15 @@ module _ (A : Csc) (etree : List ℕ) (dsigns : List ℤ) (reg : Regularisation)
       unfolding pivoted
       pivots = made.pivot ∙ rw w.pivots (put_zeros so_far.d (length y₀) t.row pivot.value w.going.pivots h)
 
-      module _ (u : Progress) (q : r ≡ Done u) where
+      module _ (u : Progress) (q : r ≡ Ok u) where
         done : (is_zero pivot.value ≡ false) × (u ≡ progress (t.row + 1) (plus t.inertia (is_positive pivot.value)) (plus t.shifts pivot.shifted))
         done = step_done pivot t u (sym q ∙ made.answer)
 
         moves : u ≡ progress (suc t.row) (plus t.inertia (is_positive pivot.value)) (plus t.shifts pivot.shifted)
         moves = done.1 ∙ ap (λ (k : ℕ). progress k (plus t.inertia (is_positive pivot.value)) (plus t.shifts pivot.shifted)) (add-one t.row)
 
-        pub run_nearer : t.row < u.row
-        run_nearer = rw moves (omega arith)
+        pub run_moves : u.row ≡ t.row + 1
+        run_moves = ap (λ (v : Progress). v.row) done.1
 
         pub run_more : Running (length y₀) A dsigns reg lp li₀ lx₀ dinv₀ li' next' marks' lx' d' dinv' y' u
         unfolding pivoted
@@ -199,7 +199,7 @@ module _ (A : Csc) (etree : List ℕ) (dsigns : List ℤ) (reg : Regularisation)
           cleared = rw (← sy) x.cleared;
         }
 
-      pub run_zero : (u : Progress) → r ≡ ZeroPivot u → Ran (length y₀) A (whole (length y₀) A etree dsigns reg) li₀ li' lx₀ lx' d' dinv₀ dinv' r
+      pub run_zero : (u : ZeroPivot) → r ≡ Err u → Ran (length y₀) A (whole (length y₀) A etree dsigns reg) li₀ li' lx₀ lx' d' dinv₀ dinv' (Err u)
       unfolding pivoted
       run_zero u q =
           let z = step_zero pivot t u (sym q ∙ made.answer) in
@@ -209,7 +209,7 @@ module _ (A : Csc) (etree : List ℕ) (dsigns : List ℤ) (reg : Regularisation)
           let back : suc t.row - 1 ≡ t.row = omega arith in
           let many : length after.d ≡ suc t.row = simp length-append (omega (arith, w.going.pivots)) in
           rw all (record {
-            answer = q ∙ rw (z.1, z.0, many, back, w.shifts);
+            answer = rw (z.1, z.0, many, back, w.shifts);
             rows = held.rows_laid;
             values = held.values_laid;
             pivots = rw many pivots;

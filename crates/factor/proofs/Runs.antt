@@ -5,7 +5,6 @@ use mathlib.Core.Path.{◌≡◌, refl, sym, ap, ◌∙◌}
 use mathlib.Core.Bool.{Bool, true, false, cond, true≢false}
 use mathlib.Core.Logic.{◌⊎◌, inl, inr, ⊎_elim}
 use mathlib.Core.List.{List, [], ◌∷◌, ◌++◌}
-use native.Mathlib.Nat.{zero-add}
 use native.Mathlib.Decide.{dec_lt, le_ind}
 use native.Mathlib.Omega.{arith}
 use lib.IntN.{ℤ, pos}
@@ -15,7 +14,8 @@ use lib.Seq.{get_or_at}
 use Rattle.desk.specs.Lists.{from, upto}
 use Rattle.csc.specs.Csc.{Csc, column, not_upper}
 use Rattle.tree.specs.Strike.{entry, parents}
-use Rattle.tree.proofs.Later.{from_more, later-none}
+use Rattle.tree.proofs.Later.{later-none}
+use Rattle.desk.proofs.Upto.{upto_more}
 use Rattle.pivot.specs.declared.Regularisation.{Regularisation}
 use Rattle.pivot.specs.Pivots.{is_zero}
 use Rattle.row.specs.Row.{visits, row_of_matrix}
@@ -49,7 +49,7 @@ module _ (n : ℕ) (A : Csc) (etree : List ℕ) (dsigns : List ℤ) (reg : Regul
         run n A etree dsigns reg (upto (suc t)) w ≡ cond b (run n A etree dsigns reg (upto t) w) (step t (run n A etree dsigns reg (upto t) w))
     unfolding run
     run_more b e =
-        ap (λ (ks : List ℕ). run n A etree dsigns reg ks w) (from_more 0 t ∙ ap (λ (k : ℕ). upto t ++ (k ∷ [])) (zero-add t))
+        ap (λ (ks : List ℕ). run n A etree dsigns reg ks w) (upto_more t)
         ∙ run_append (upto t) (t ∷ []) w
         ∙ ap (λ (b : Bool). cond b (run n A etree dsigns reg (upto t) w) (step t (run n A etree dsigns reg (upto t) w))) e
 

@@ -1,17 +1,17 @@
 -- What the steps of the factor ask and leave. Assumes nothing.
-use Rattle.std.specs.Prelude.{ℕ, ◌+◌, ◌-◌, ◌^◌, ◌<◌, ◌≤◌, ◌≡◌, cond, false, List, ◌∷◌, ◌++◌, map, ℤ, Float, length, replicate}
+use Rattle.std.specs.Prelude.{ℕ, ◌+◌, ◌-◌, ◌^◌, ◌<◌, ◌≤◌, ◌≡◌, cond, false, List, ◌∷◌, ◌++◌, map, ℤ, Result, Ok, Err, Float, length, replicate}
 use Rattle.desk.specs.Desk.{max_n}
 use Rattle.desk.specs.Lists.{from, upto, over, total}
 use Rattle.csc.specs.Csc.{Csc, column, bad_pointers, not_upper}
 use Rattle.tree.specs.Strike.{entry, parents, pointers_of_l}
 use Rattle.pivot.specs.declared.Regularisation.{Regularisation}
 use Rattle.pivot.specs.Pivots.{+0}
-use Rattle.row.specs.declared.Step.{Step}
-use Rattle.row.specs.declared.Step.TheVariants.{Done, ZeroPivot}
+use Rattle.row.specs.declared.Progress.{Progress}
+use Rattle.row.specs.declared.ZeroPivot.{ZeroPivot}
 use Rattle.row.specs.Laid.{laid}
 use Rattle.row.specs.Row.{diagonal}
 use Rattle.row.specs.Kernels.{Lists, Listed}
-use Rattle.row.specs.Steps.{progress, Ready}
+use Rattle.row.specs.Steps.{progress, zero_pivot, Ready}
 use Rattle.factor.specs.Factor.{Work, Tables, begun, run, tables_of, spoiled_factor}
 
 -- the pointers of a matrix of order n, and scratch for its tree
@@ -31,8 +31,8 @@ abbrev pub whole : ℕ → Csc → List ℕ → List ℤ → Regularisation → 
 whole n A etree dsigns reg = run n A etree dsigns reg (upto n) (begun n)
 
 -- what it came to
-abbrev pub finished : ℕ → Work → Step
-finished n w = cond w.stopped (ZeroPivot (progress (length w.d - 1) 0 w.shifts)) (Done (progress n w.inertia w.shifts))
+abbrev pub finished : ℕ → Work → Result Progress ZeroPivot
+finished n w = cond w.stopped (Err (zero_pivot (length w.d - 1) w.shifts)) (Ok (progress n w.inertia w.shifts))
 
 -- what `rows` asks: all is ready for the first row, and D is all zeros
 pub record Runnable (A : Csc) (etree : List ℕ) (dsigns : List ℤ) (lp li next marks order : List ℕ) (lx d dinv y : List Float) : Type 0 where
@@ -40,7 +40,7 @@ pub record Runnable (A : Csc) (etree : List ℕ) (dsigns : List ℤ) (lp li next
   pub zeros : d ≡ replicate (length y) +0
 
 -- what it leaves
-pub record Ran (n : ℕ) (A : Csc) (w : Work) (li₀ li : List ℕ) (lx₀ lx d dinv₀ dinv : List Float) (r : Step) : Type 0 where
+pub record Ran (n : ℕ) (A : Csc) (w : Work) (li₀ li : List ℕ) (lx₀ lx d dinv₀ dinv : List Float) (r : Result Progress ZeroPivot) : Type 0 where
   pub answer : r ≡ finished n w
   pub rows : li ≡ laid (pointers_of_l n (entry A.colptr A.rowval)) w.rows li₀
   pub values : lx ≡ laid (pointers_of_l n (entry A.colptr A.rowval)) w.vals lx₀
@@ -73,7 +73,7 @@ pub record Signed (n : ℕ) (dsigns : List ℤ) (y : List Float) : Type 0 where
   pub room : n ≤ length y
 
 -- what it leaves
-pub record Factored (n : ℕ) (A : Csc) (w : Work) (t₀ t : Tables) (r : Step) : Type 0 where
+pub record Factored (n : ℕ) (A : Csc) (w : Work) (t₀ t : Tables) (r : Result Progress ZeroPivot) : Type 0 where
   pub answer : r ≡ finished n w
   pub written : t ≡ tables_of n A w t₀
 

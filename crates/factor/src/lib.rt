@@ -1,68 +1,43 @@
-// The factor: all rows, numeric and logical, and the test of the tables that it reads.
+// The factor: all rows, numeric and logical, and the test of the tables that it reads. The lists of L and of scratch come one by one, as
+// a row takes them.
 #![tactic(auto)]
 
-ghost use Rattle.std.specs.Prelude.{◌≡◌, [], length};
-ghost use Rattle.desk.specs.Lists.{over};
-ghost use Rattle.csc.specs.Csc.{matrix};
+ghost use Rattle.std.specs.Prelude.{◌≡◌, ℕ, ◌+◌, ◌^◌, ◌<◌, ◌≤◌, length, get_or, take, replicate};
+ghost use Rattle.desk.specs.Lists.{sums, over};
+ghost use Rattle.csc.specs.Csc.{lent};
 ghost use Rattle.tree.specs.Strike.{entry, rows_of_l};
-ghost use Rattle.factor.specs.Factor.{same, spoiled_factor, logical_tables};
+ghost use Rattle.factor.specs.Factor.{spoiled_factor, logical_tables};
 ghost use Rattle.factor.specs.Steps.{Testable, whole, Runnable, Ran, tables, Prepared, Signed, Factored, Unlisted, Stored, diagonals_of};
 
-use csc::{accumulate, copy_starts};
-use desk::{fill_bytes, fill_floats};
+use csc::{CscMatrix, accumulate, bad_pointers, copy_starts};
+use desk::{fill, wide};
 use pivot::Regularisation;
-use row::{Progress, Step, row};
-
-// Whether two tables have the same numbers.
-fn same(a: &[u32], b: &[u32]) -> bool
-    ensures { result ≡ same a.now b.now }
-{
-    if a.len() != b.len() {
-        return false;
-    }
-    let mut i: usize = 0;
-    while i < a.len() {
-        if a[i] != b[i] {
-            return false;
-        }
-        i += 1;
-    }
-    true
-}
+use row::{Progress, ZeroPivot, row};
 
 // Refusal 11, Spoiled, in the factor: whether pointers or rows don't fit, or parents or counts aren't those of the pattern, whose tree is
 // written to scratch alone.
 pub fn spoiled(
     n: usize,
-    colptr: &[u32],
-    rowval: &[u32],
+    a: &CscMatrix<'_>,
     etree: &[u32],
     lnz: &[u32],
     work: &mut [u32],
     counts: &mut [u32],
     parents: &mut [u32],
 ) -> bool
-    requires { Testable n colptr.now work.old counts.old parents.old }
-    ensures { result ≡ spoiled_factor n (length rowval.now) (matrix colptr.now rowval.now []) etree.now lnz.now }
+    requires { Testable n a.now.colptr.now work.old counts.old parents.old }
+    ensures { result ≡ spoiled_factor n (length a.now.rowval.now) (lent a.now) etree.now lnz.now }
 {
-    if csc::bad_pointers(colptr, rowval.len()) {
+    if bad_pointers(a.colptr, a.rowval.len()) || a.not_upper_triangular(n) {
         return true;
     }
-    if csc::not_upper_triangular(n, colptr, rowval) {
-        return true;
-    }
-    tree::etree(n, colptr, rowval, work, &mut *counts, &mut *parents);
-    if !same(etree, &parents[..n]) {
-        return true;
-    }
-    !same(lnz, &counts[..n])
+    tree::etree(n, a, work, &mut *counts, &mut *parents);
+    etree != &parents[..n] || lnz != &counts[..n]
 }
 
 // All rows one after the other, up to a zero pivot.
 fn rows(
-    colptr: &[u32],
-    rowval: &[u32],
-    nzval: &[f64],
+    a: &CscMatrix<'_>,
     etree: &[u32],
     dsigns: &[i8],
     regularisation: Regularisation,
@@ -75,22 +50,19 @@ fn rows(
     marks: &mut [u8],
     order: &mut [u32],
     y: &mut [f64],
-) -> Step
-    requires { Runnable (matrix colptr.now rowval.now nzval.now) etree.now dsigns.now lp.now li.old next.old marks.old order.old lx.old d.old dinv.old y.old }
-    ensures { Ran (length y.old) (matrix colptr.now rowval.now nzval.now) (whole (length y.old) (matrix colptr.now rowval.now nzval.now) etree.now dsigns.now regularisation) li.old li.new lx.old lx.new d.new dinv.old dinv.new result }
+) -> Result<Progress, ZeroPivot>
+    requires { Runnable (lent a.now) etree.now dsigns.now lp.now li.old next.old marks.old order.old lx.old d.old dinv.old y.old }
+    ensures { Ran (length y.old) (lent a.now) (whole (length y.old) (lent a.now) etree.now dsigns.now regularisation) li.old li.new lx.old lx.new d.new dinv.old dinv.new result }
 {
-    let n = y.len();
     let mut progress = Progress {
         row: 0,
         inertia: 0,
         shifts: 0,
     };
-    while progress.row < n {
-        let step = row(
+    for _ in 0..y.len() {
+        progress = row(
             progress,
-            colptr,
-            rowval,
-            nzval,
+            a,
             etree,
             dsigns,
             regularisation,
@@ -103,20 +75,29 @@ fn rows(
             &mut *marks,
             &mut *order,
             &mut *y,
-        );
-        match step {
-            Step::ZeroPivot(_) => return step,
-            Step::Done(done) => progress = done,
-        }
+        )?;
     }
-    Step::Done(progress)
+    Ok(progress)
+}
+
+// What each factor begins with: L's pointers from the counts, each column's first free place, and no mark.
+fn begin(etree: &[u32], lnz: &[u32], lp: &mut [u32], next: &mut [u32], marks: &mut [u8])
+    requires counted { length etree.now ≤ length lnz.now }
+    requires room { (length etree.now + 1 ≤ length lp.old) × (length etree.now ≤ length next.old) × (length etree.now ≤ length marks.old) }
+    requires by_index { (c : ℕ) → c ≤ length etree.now → get_or (sums 0 (take (length etree.now) lnz.now)) c 0 < 2 ^ 32 }
+    ensures pointers { lp.new ≡ over (sums 0 (take (length etree.now) lnz.now)) lp.old }
+    ensures places { next.new ≡ over (take (length etree.now) lp.new) next.old }
+    ensures unmarked { marks.new ≡ over (replicate (length etree.now) 0) marks.old }
+{
+    let n = etree.len();
+    accumulate(lnz, n, &mut *lp);
+    copy_starts(&lp[..], n, next);
+    fill(marks, n, 0);
 }
 
 // The numeric factor. next, order, marks and y are scratch.
 pub fn numeric(
-    colptr: &[u32],
-    rowval: &[u32],
-    nzval: &[f64],
+    a: &CscMatrix<'_>,
     etree: &[u32],
     lnz: &[u32],
     dsigns: &[i8],
@@ -130,26 +111,21 @@ pub fn numeric(
     order: &mut [u32],
     marks: &mut [u8],
     y: &mut [f64],
-) -> Step
-    requires prepared { Prepared (matrix colptr.now rowval.now nzval.now) etree.now lnz.now (tables lp.old li.old lx.old d.old dinv.old) next.old order.old marks.old }
+) -> Result<Progress, ZeroPivot>
+    requires prepared { Prepared (lent a.now) etree.now lnz.now (tables lp.old li.old lx.old d.old dinv.old) next.old order.old marks.old }
     requires signed { Signed (length etree.now) dsigns.now y.old }
-    ensures { Factored (length etree.now) (matrix colptr.now rowval.now nzval.now) (whole (length etree.now) (matrix colptr.now rowval.now nzval.now) etree.now dsigns.now regularisation) (tables lp.old li.old lx.old d.old dinv.old) (tables lp.new li.new lx.new d.new dinv.new) result }
+    ensures { Factored (length etree.now) (lent a.now) (whole (length etree.now) (lent a.now) etree.now dsigns.now regularisation) (tables lp.old li.old lx.old d.old dinv.old) (tables lp.new li.new lx.new d.new dinv.new) result }
 {
     let n = etree.len();
-    let end = n + 1;
-    accumulate(lnz, n, &mut *lp);
-    copy_starts(&lp[..], n, &mut *next);
-    fill_floats(&mut *d, n, 0.0);
-    fill_bytes(&mut *marks, n, 0);
-    fill_floats(&mut *y, n, 0.0);
+    begin(etree, lnz, &mut *lp, &mut *next, &mut *marks);
+    fill(&mut *d, n, 0.0);
+    fill(&mut *y, n, 0.0);
     rows(
-        colptr,
-        rowval,
-        nzval,
+        a,
         etree,
         dsigns,
         regularisation,
-        &lp[..end],
+        &lp[..n + 1],
         li,
         lx,
         &mut d[..n],
@@ -163,53 +139,45 @@ pub fn numeric(
 
 // The rows of L's columns, row by row.
 fn list_rows(
-    colptr: &[u32],
-    rowval: &[u32],
+    a: &CscMatrix<'_>,
     etree: &[u32],
     li: &mut [u32],
     next: &mut [u32],
     marks: &mut [u8],
     order: &mut [u32],
 )
-    requires { Unlisted colptr.now rowval.now etree.now li.old next.old marks.old order.old }
-    ensures { li.new ≡ over (rows_of_l (length etree.now) (entry colptr.now rowval.now)) li.old }
+    requires { Unlisted a.now.colptr.now a.now.rowval.now etree.now li.old next.old marks.old order.old }
+    ensures { li.new ≡ over (rows_of_l (length etree.now) (entry a.now.colptr.now a.now.rowval.now)) li.old }
 {
-    let mut k: usize = 0;
-    while k < etree.len() {
+    for k in 0..etree.len() {
         row::list_row(
             k,
-            csc::column(colptr, rowval, k),
+            a.rows(k),
             etree,
             &mut *li,
             &mut *next,
             &mut *marks,
             &mut *order,
         );
-        k += 1;
     }
 }
 
 // D of a logical factor: +0 first, and from then on each column's diagonal entry.
-fn diagonals(colptr: &[u32], rowval: &[u32], nzval: &[f64], n: usize, d: &mut [f64])
-    requires { Stored n (matrix colptr.now rowval.now nzval.now) d.old }
-    ensures { d.new ≡ over (diagonals_of n (matrix colptr.now rowval.now nzval.now)) d.old }
+fn diagonals(a: &CscMatrix<'_>, n: usize, d: &mut [f64])
+    requires { Stored n (lent a.now) d.old }
+    ensures { d.new ≡ over (diagonals_of n (lent a.now)) d.old }
 {
     d[0] = 0.0;
-    let mut k: usize = 1;
-    while k < n {
-        let a = desk::wide(colptr[k]);
-        let e = desk::wide(colptr[k + 1]);
-        let value = row::diagonal(k, &rowval[a..e], &nzval[a..e]);
+    for k in 1..n {
+        let (rows, values) = a.entries(k);
+        let value = row::diagonal(k, rows, values);
         d[k] = value;
-        k += 1;
     }
 }
 
 // The logical factor: L's rows, ones for its values and for Dinv, and D as it is stored. next, order and marks are scratch.
 pub fn logical(
-    colptr: &[u32],
-    rowval: &[u32],
-    nzval: &[f64],
+    a: &CscMatrix<'_>,
     etree: &[u32],
     lnz: &[u32],
     lp: &mut [u32],
@@ -221,24 +189,21 @@ pub fn logical(
     order: &mut [u32],
     marks: &mut [u8],
 )
-    requires { Prepared (matrix colptr.now rowval.now nzval.now) etree.now lnz.now (tables lp.old li.old lx.old d.old dinv.old) next.old order.old marks.old }
-    ensures { tables lp.new li.new lx.new d.new dinv.new ≡ logical_tables (length etree.now) (matrix colptr.now rowval.now nzval.now) (tables lp.old li.old lx.old d.old dinv.old) }
+    requires { Prepared (lent a.now) etree.now lnz.now (tables lp.old li.old lx.old d.old dinv.old) next.old order.old marks.old }
+    ensures { tables lp.new li.new lx.new d.new dinv.new ≡ logical_tables (length etree.now) (lent a.now) (tables lp.old li.old lx.old d.old dinv.old) }
 {
     let n = etree.len();
-    csc::accumulate(lnz, n, &mut *lp);
-    csc::copy_starts(&lp[..], n, &mut *next);
-    desk::fill_bytes(&mut *marks, n, 0);
+    begin(etree, lnz, &mut *lp, &mut *next, &mut *marks);
     list_rows(
-        colptr,
-        rowval,
+        a,
         etree,
         li,
         &mut next[..n],
         &mut marks[..n],
         &mut order[..n],
     );
-    let m = desk::wide(lp[n]);
-    fill_floats(lx, m, 1.0);
-    fill_floats(dinv, n, 1.0);
-    diagonals(colptr, rowval, nzval, n, d);
+    let m = wide(lp[n]);
+    fill(lx, m, 1.0);
+    fill(dinv, n, 1.0);
+    diagonals(a, n, d);
 }

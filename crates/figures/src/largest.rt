@@ -2,8 +2,8 @@
 ghost use Rattle.std.specs.Prelude.{◌≤◌, length};
 
 use crate::matrices::analysed;
-use qdldl::Answer;
-use say::text;
+use analysis::Tables;
+use csc::CscMatrix;
 use std::io;
 
 // The first row of column c: a column has 32 rows, from 1,552 on 33, and none above row 0.
@@ -53,19 +53,23 @@ pub fn band(rt: &impl Print) -> io::Result<()> {
     let mut perm = [0u32; 2048];
     write_band(&mut colptr, &mut rowval);
     write_identity(&mut perm);
-    let mut pc = [0u32; 2049];
-    let mut pr = [0u32; 65536];
-    let mut pv = [0f64; 65536];
-    let mut map = [0u32; 65536];
-    let mut etree = [0u32; 2048];
-    let mut lnz = [0u32; 2048];
-    let answer = analysed(
-        2048, 2048, &colptr, &rowval, &nzval, &perm, &mut pc, &mut pr, &mut pv, &mut map,
-        &mut etree, &mut lnz,
-    );
-    text(rt, b"n=2,048 and m=65,536: ")?;
-    match answer {
-        Answer::Refused(refusal, _) => say::refusal(rt, refusal),
-        Answer::Done(_) => text(rt, b"accepted\n"),
+    let band = CscMatrix {
+        colptr: &colptr,
+        rowval: &rowval,
+        nzval: &nzval,
+    };
+    let mut out = Tables {
+        pc: &mut [0; 2049],
+        pr: &mut [0; 65536],
+        pv: &mut [0.0; 65536],
+        map: &mut [0; 65536],
+        etree: &mut [0; 2048],
+        lnz: &mut [0; 2048],
+        dsigns: &mut [0; 2048],
+    };
+    print!(rt; "n=2,048 and m=65,536: ")?;
+    match analysed(2048, 2048, &band, &perm, &mut out) {
+        Err(refused) => println!(rt; "{refused}"),
+        Ok(_) => println!(rt; "accepted"),
     }
 }

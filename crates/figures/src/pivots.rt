@@ -1,6 +1,5 @@
 // The figures of the pivots.
 use pivot::{Regularisation, is_positive, is_zero, regularised};
-use say::text;
 use std::io;
 
 const EPS: f64 = 1e-12;
@@ -15,60 +14,60 @@ fn defaults() -> Regularisation {
     }
 }
 
-// Says whether a pivot is zero, above zero, or neither, and ends the line.
-fn side(rt: &impl Print, d: f64) -> io::Result<()> {
+// Whether a pivot is zero, above zero, or neither.
+fn side(d: f64) -> &'static str {
     if is_zero(d) {
-        text(rt, b", zero\n")
+        "zero"
     } else if is_positive(d) {
-        text(rt, b", above zero\n")
+        "above zero"
     } else {
-        text(rt, b", not above zero\n")
+        "not above zero"
     }
 }
 
-// Says what a shifted pivot is: delta, or what sign 0 makes of it.
-fn shifted(rt: &impl Print, d: f64) -> io::Result<()> {
+// What a shifted pivot is: delta, or what sign 0 makes of it.
+fn shifted(d: f64) -> &'static str {
     if d == DELTA {
-        text(rt, b"becomes 1e-7")
+        "becomes 1e-7"
     } else if d == DELTA * 0.0 {
-        text(rt, b"becomes delta*0")
+        "becomes delta*0"
     } else {
-        text(rt, b"becomes another number")
+        "becomes another number"
     }
 }
 
 // Says whether a pivot is kept or what it becomes, and its side of zero after that.
 fn show(rt: &impl Print, regularisation: Regularisation, sign: i8, d: f64) -> io::Result<()> {
     let pivot = regularised(regularisation, sign, d);
-    let value = pivot.value;
-    if pivot.shifted {
-        shifted(rt, value)?;
-    } else if value == d {
-        text(rt, b"is kept")?;
+    let fate = if pivot.shifted {
+        shifted(pivot.value)
+    } else if pivot.value == d {
+        "is kept"
     } else {
-        text(rt, b"is changed")?;
-    }
-    side(rt, value)
+        "is changed"
+    };
+    let side = side(pivot.value);
+    println!(rt; "{fate}, {side}")
 }
 
 // The second pivots of two pairs: the last entry less 1 * 1.
 pub fn pairs(rt: &impl Print) -> io::Result<()> {
-    text(rt, b"[1 1; . -1], signs 1,-1: second pivot -2 ")?;
+    print!(rt; "[1 1; . -1], signs 1,-1: second pivot -2 ")?;
     show(rt, defaults(), -1, -1.0 - 1.0 * 1.0)?;
-    text(rt, b"[1 1; . -1], no signs, defaults: second pivot -2 ")?;
+    print!(rt; "[1 1; . -1], no signs, defaults: second pivot -2 ")?;
     show(rt, defaults(), 1, -1.0 - 1.0 * 1.0)?;
-    text(rt, b"[1 1; . 1], off: second pivot 0 ")?;
+    print!(rt; "[1 1; . 1], off: second pivot 0 ")?;
     show(rt, Regularisation::Off, 1, 1.0 - 1.0 * 1.0)
 }
 
 // The pivots of one unknown, at eps, just below it, at -0, and with sign 0.
 pub fn single(rt: &impl Print) -> io::Result<()> {
-    text(rt, b"n=1, defaults: 1e-12 ")?;
+    print!(rt; "n=1, defaults: 1e-12 ")?;
     show(rt, defaults(), 1, EPS)?;
-    text(rt, b"n=1, defaults: the next f64 below ")?;
+    print!(rt; "n=1, defaults: the next f64 below ")?;
     show(rt, defaults(), 1, 9.999999999999998e-13)?;
-    text(rt, b"n=1, off: -0 ")?;
+    print!(rt; "n=1, off: -0 ")?;
     show(rt, Regularisation::Off, 1, -0.0)?;
-    text(rt, b"n=1, sign 0, defaults: 3 ")?;
+    print!(rt; "n=1, sign 0, defaults: 3 ")?;
     show(rt, defaults(), 0, 3.0)
 }

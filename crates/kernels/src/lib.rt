@@ -1,4 +1,5 @@
-// The kernels of factor, solve and edit by themselves, for the harness to compare and to time. Each asks what its namesake asks.
+// The kernels of factor, solve and edit by themselves, for the harness to compare and to time. Each asks what its namesake asks, and
+// takes the words of C.
 #![tactic(auto)]
 
 ghost use Rattle.std.specs.Prelude.{◌≡◌, ◌<◌, ◌≤◌, ◌^◌, [], reverse, length};
@@ -12,21 +13,32 @@ ghost use Rattle.edit.specs.Edit.{updated, scaled, offset as offsetted};
 ghost use Rattle.edit.specs.Kernels.{Editable};
 ghost use Rattle.kernels.specs.Words.{settings, progress_words, Told};
 
+use csc::CscMatrix;
 use pivot::Regularisation;
-use row::{Progress, Step};
+use row::Progress;
 
 pub fn coinravel_kernel_spoiled(n: usize, lp: &[u32], li: &[u32], lx: &[f64]) -> bool
     requires { n < 2 ^ 32 }
     ensures { result ≡ spoiled_l n lp.now li.now lx.now }
 {
-    solve::spoiled(n, lp, li, lx)
+    let l = CscMatrix {
+        colptr: lp,
+        rowval: li,
+        nzval: lx,
+    };
+    solve::spoiled(n, &l)
 }
 
 pub fn coinravel_kernel_lsolve(lp: &[u32], li: &[u32], lx: &[f64], x: &mut [f64])
     requires { Factored (length x.old) lp.now li.now lx.now }
     ensures { x.new ≡ lsolved lp.now li.now lx.now (upto (length x.old)) x.old }
 {
-    solve::lsolve(lp, li, lx, x);
+    let l = CscMatrix {
+        colptr: lp,
+        rowval: li,
+        nzval: lx,
+    };
+    solve::lsolve(&l, x);
 }
 
 pub fn coinravel_kernel_dltsolve(lp: &[u32], li: &[u32], lx: &[f64], dinv: &[f64], x: &mut [f64])
@@ -34,7 +46,12 @@ pub fn coinravel_kernel_dltsolve(lp: &[u32], li: &[u32], lx: &[f64], dinv: &[f64
     requires dinv_len { length dinv.now ≡ length x.old }
     ensures { x.new ≡ dltsolved lp.now li.now lx.now dinv.now (reverse (upto (length x.old))) x.old }
 {
-    solve::dltsolve(lp, li, lx, dinv, x);
+    let l = CscMatrix {
+        colptr: lp,
+        rowval: li,
+        nzval: lx,
+    };
+    solve::dltsolve(&l, dinv, x);
 }
 
 pub fn coinravel_kernel_solve(
@@ -49,7 +66,12 @@ pub fn coinravel_kernel_solve(
     requires { Solvable perm.now lp.now li.now lx.now dinv.now b.old x.old }
     ensures { b.new ≡ solved (length perm.now) perm.now lp.now li.now lx.now dinv.now b.old }
 {
-    solve::solve(perm, lp, li, lx, dinv, b, x);
+    let l = CscMatrix {
+        colptr: lp,
+        rowval: li,
+        nzval: lx,
+    };
+    solve::solve(perm, &l, dinv, b, x);
 }
 
 pub fn coinravel_kernel_update_values(
@@ -86,22 +108,24 @@ pub fn coinravel_kernel_offset_values(
     edit::offset_values(map, indices, offset, signs, vals);
 }
 
+// Regularisation from the flag and the two numbers that C lends.
 fn settings(on: bool, eps: f64, delta: f64) -> Regularisation
     ensures { result ≡ settings on eps delta }
 {
     if on {
-        return Regularisation::On { eps, delta };
+        Regularisation::On { eps, delta }
+    } else {
+        Regularisation::Off
     }
-    Regularisation::Off
 }
 
+// The three numbers that the numeric kernel tells C.
+#[tactic(auto, unfolding(desk::specs::Lists::over))]
 fn write_progress(progress: Progress, words: &mut [usize])
     requires { 3 ≤ length words.old }
     ensures { words.new ≡ over (progress_words progress) words.old }
 {
-    words[0] = progress.row;
-    words[1] = progress.inertia;
-    words[2] = progress.shifts;
+    words[..3].copy_from_slice(&[progress.row, progress.inertia, progress.shifts]);
 }
 
 pub fn coinravel_kernel_spoiled_factor(
@@ -117,10 +141,15 @@ pub fn coinravel_kernel_spoiled_factor(
     requires { Testable n colptr.now work.old counts.old parents.old }
     ensures { result ≡ spoiled_factor n (length rowval.now) (matrix colptr.now rowval.now []) etree.now lnz.now }
 {
-    factor::spoiled(n, colptr, rowval, etree, lnz, work, counts, parents)
+    let a = CscMatrix {
+        colptr,
+        rowval,
+        nzval: &[],
+    };
+    factor::spoiled(n, &a, etree, lnz, work, counts, parents)
 }
 
-// Answers whether all rows are done; words are the next row, or that of the zero pivot, inertia and shifts.
+// Answers whether all rows are done; words are the next row, or that of the zero pivot, inertia and shifts. C has no enum for them.
 pub fn coinravel_kernel_numeric(
     colptr: &[u32],
     rowval: &[u32],
@@ -148,10 +177,13 @@ pub fn coinravel_kernel_numeric(
     ensures { Told (finished (length etree.now) (whole (length etree.now) (matrix colptr.now rowval.now nzval.now) etree.now dsigns.now (settings on eps delta))) (tables_of (length etree.now) (matrix colptr.now rowval.now nzval.now) (whole (length etree.now) (matrix colptr.now rowval.now nzval.now) etree.now dsigns.now (settings on eps delta)) (tables lp.old li.old lx.old d.old dinv.old)) result words.old words.new (tables lp.new li.new lx.new d.new dinv.new) }
 {
     let regularisation = settings(on, eps, delta);
-    let step = factor::numeric(
+    let a = CscMatrix {
         colptr,
         rowval,
         nzval,
+    };
+    let step = factor::numeric(
+        &a,
         etree,
         lnz,
         dsigns,
@@ -167,11 +199,16 @@ pub fn coinravel_kernel_numeric(
         y,
     );
     match step {
-        Step::Done(done) => {
+        Ok(done) => {
             write_progress(done, words);
             true
         }
-        Step::ZeroPivot(stopped) => {
+        Err(zero) => {
+            let stopped = Progress {
+                row: zero.row,
+                inertia: 0,
+                shifts: zero.shifts,
+            };
             write_progress(stopped, words);
             false
         }
@@ -196,7 +233,10 @@ pub fn coinravel_kernel_logical(
     requires { Prepared (matrix colptr.now rowval.now nzval.now) etree.now lnz.now (tables lp.old li.old lx.old d.old dinv.old) next.old order.old marks.old }
     ensures { tables lp.new li.new lx.new d.new dinv.new ≡ logical_tables (length etree.now) (matrix colptr.now rowval.now nzval.now) (tables lp.old li.old lx.old d.old dinv.old) }
 {
-    factor::logical(
-        colptr, rowval, nzval, etree, lnz, lp, li, lx, d, dinv, next, order, marks,
-    );
+    let a = CscMatrix {
+        colptr,
+        rowval,
+        nzval,
+    };
+    factor::logical(&a, etree, lnz, lp, li, lx, d, dinv, next, order, marks);
 }

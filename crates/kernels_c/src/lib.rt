@@ -1,4 +1,4 @@
-// The archive of the kernels, for C: each export is its namesake of `kernels`.
+// The archive of the kernels, for C: each export is its namesake of `kernels`, with its clauses, since no crate can stand on an archive.
 #![tactic(auto)]
 
 ghost use Rattle.std.specs.Prelude.{◌≡◌, ◌<◌, ◌≤◌, ◌^◌, [], reverse, length};
@@ -118,7 +118,7 @@ pub extern "C" fn coinravel_kernel_spoiled_factor(
     kernels::coinravel_kernel_spoiled_factor(n, colptr, rowval, etree, lnz, work, counts, parents)
 }
 
-// Answers whether all rows are done; words are the next row, or that of the zero pivot, inertia and shifts.
+// Answers whether all rows are done; words are the next row, or that of the zero pivot, inertia and shifts. C has no enum for them.
 #[unsafe(no_mangle)]
 pub extern "C" fn coinravel_kernel_numeric(
     colptr: &[u32],

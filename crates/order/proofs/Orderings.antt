@@ -14,7 +14,7 @@ use Rattle.desk.specs.Lists.{upto, tally, over}
 use Rattle.desk.proofs.Both.{is_false}
 use Rattle.desk.proofs.Upto.{get_or-upto, length-upto, all-upto, each-upto}
 use Rattle.desk.proofs.Tally.{tally-none, tally-here, tally-past, tally_split, tally_suc, below_all, below_missing, below_once, each_once}
-use Rattle.desk.proofs.Over.{front, front_more, front_length, front_all, get_d_over}
+use Rattle.desk.proofs.Over.{front, front_more, front_all, get_d_over}
 use Rattle.order.specs.Order.{is_ordering, place_of, inverse, permuted, ipermuted}
 use Rattle.order.specs.Kernels.{Fitting}
 
@@ -148,9 +148,6 @@ module _ {A : Type 0} (d : A) where
   -- ---- the loop that permutes: x's front is the permuted list as far as the loop has come
 
   module _ (p : List ℕ) (b x₀ x : List A) (i : ℕ) (f : Fitting p b x₀) (e : x ≡ front (permuted d p b) x₀ i) where
-    pub permuted-size : i ≤ length p → length x ≡ length x₀
-    permuted-size h = ap length e ∙ front_length (permuted d p b) x₀ i (omega (arith, length-permuted p b)) (omega (arith, f.writes))
-
     pub permuted_more : i < length p → {j : ℕ} → j ≡ get_or p i 0 → set x i (get_or b j d) ≡ front (permuted d p b) x₀ (i + 1)
     permuted_more h {j} q =
         rw (e, q, ← get_or-permuted p b i h)

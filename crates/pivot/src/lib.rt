@@ -4,13 +4,14 @@
 ghost use Rattle.std.specs.Prelude.{◌≡◌};
 ghost use Rattle.pivot.specs.Pivots.{made, pivot_of, is_zero, is_positive};
 
-#[derive(Clone, Copy)]
+// An enum of its own, and no `Option`: the paper names its cases.
+#[derive(Clone, Copy, Debug, PartialEq)]
 pub enum Regularisation {
     Off,
     On { eps: f64, delta: f64 },
 }
 
-#[derive(Clone, Copy)]
+#[derive(Clone, Copy, Debug, PartialEq)]
 pub struct Pivot {
     pub value: f64,
     pub reciprocal: f64,
@@ -28,13 +29,14 @@ fn made(value: f64, shifted: bool) -> Pivot
 }
 
 // The pivot that d and its sign make: shifted to delta * sign where d * sign is below eps.
+#[tactic(auto, unfolding(crate::specs::Pivots::pivot_of))]
 pub fn regularised(regularisation: Regularisation, sign: i8, d: f64) -> Pivot
     ensures { result ≡ pivot_of regularisation sign d }
 {
     match regularisation {
         Regularisation::Off => made(d, false),
         Regularisation::On { eps, delta } => {
-            let s = sign as f64;
+            let s = f64::from(sign);
             if d * s < eps {
                 return made(delta * s, true);
             }

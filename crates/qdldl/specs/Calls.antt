@@ -1,12 +1,11 @@
 -- Document 01: the status, what every call answers, and the read-outs. Assumes nothing.
-use Rattle.std.specs.Prelude.{ℕ, ◌≡◌, Bool, true, false, cond, List, []}
-use Rattle.desk.specs.Desk.{number_of, values_of}
-use Rattle.desk.specs.declared.Verdict.{Verdict}
-use Rattle.desk.specs.declared.Verdict.TheVariants.{Accepted, Refused}
+use Rattle.std.specs.Prelude.{ℕ, ◌≡◌, Bool, true, false, cond, List, [], Result, Ok, Err}
+use Rattle.desk.specs.declared.Refusal.{Refusal}
+use Rattle.desk.specs.Desk.{Verdict, number_of, values_of}
 use Rattle.qdldl.specs.declared.Phase.{Phase}
 use Rattle.qdldl.specs.declared.Phase.TheVariants.{Empty, Analysed, Logical, Numeric, Failed}
 use Rattle.qdldl.specs.declared.Status.{Status}
-use Rattle.qdldl.specs.declared.Answer.{Answer}
+use Rattle.qdldl.specs.declared.Refused.{Refused}
 
 -- "Status is Empty, Analysed, Logical, Numeric or Failed, with n, m, the length of L, inertia and shift count"
 abbrev pub status : Phase → ℕ → ℕ → ℕ → ℕ → ℕ → Status
@@ -31,18 +30,25 @@ is_numeric Logical = false
 is_numeric Numeric = true
 is_numeric Failed = false
 
+-- what a call answers: the next status, or a refusal with the status that it leaves
+abbrev pub Answer : Type 0
+Answer = Result Status Refused
+
+abbrev pub refuse : Refusal → Status → Refused
+refuse r s = record { refusal = r; status = s }
+
 -- the paper's number, values and status of an answer
 abbrev pub answer_number : Answer → ℕ
-answer_number (Answer.Done s) = 0
-answer_number (Answer.Refused r s) = number_of r
+answer_number (Ok s) = 0
+answer_number (Err e) = number_of e.refusal
 
 abbrev pub answer_values : Answer → List ℕ
-answer_values (Answer.Done s) = []
-answer_values (Answer.Refused r s) = values_of r
+answer_values (Ok s) = []
+answer_values (Err e) = values_of e.refusal
 
 abbrev pub answer_status : Answer → Status
-answer_status (Answer.Done s) = s
-answer_status (Answer.Refused r s) = s
+answer_status (Ok s) = s
+answer_status (Err e) = e.status
 
 -- a call's outcome: the answer, and the lent tables afterwards
 pub record Outcome (T : Type 0) : Type 0 where
@@ -54,8 +60,8 @@ outcome answer tables = record { answer = answer; tables = tables }
 
 -- "Every refusal but 14 hands back status and all buffers untouched, scratch aside."
 unfoldable pub settled : {T : Type 0} → Verdict → Status → T → Outcome T → Outcome T
-settled Accepted s tables done = done
-settled (Refused r) s tables done = outcome (Answer.Refused r s) tables
+settled (Ok u) s tables done = done
+settled (Err r) s tables done = outcome (Err (refuse r s)) tables
 
 -- a call's promise: its reply, and every list lent to it afterwards, are the outcome's
 pub record Settles {T : Type 0} (o : Outcome T) (r : Answer) (t : T) : Type 0 where

@@ -1,5 +1,5 @@
 -- Document 01: factor and refactor. Assumes nothing.
-use Rattle.std.specs.Prelude.{ℕ, ◌+◌, ◌-◌, Bool, false, cond, ◌||◌, List, [], ℤ, Float, length}
+use Rattle.std.specs.Prelude.{ℕ, ◌+◌, ◌-◌, Bool, false, cond, ◌||◌, List, [], Ok, Err, ℤ, Float, length}
 use Rattle.desk.specs.Lists.{upto, any, isnt, short, total}
 use Rattle.desk.specs.Desk.{Line, ◌⇒◌⨾◌, first, bad_size_later, bad_sign}
 use Rattle.desk.specs.declared.Refusal.TheVariants.{NotReady, BadSize, BadLength, BadSign, Spoiled, NoRoom, ZeroPivot}
@@ -8,8 +8,7 @@ use Rattle.pivot.specs.declared.Regularisation.{Regularisation}
 use Rattle.factor.specs.Factor.{Work, Tables, begun, run, tables_of, logical_tables, spoiled_factor}
 use Rattle.qdldl.specs.declared.Phase.TheVariants.{Logical, Numeric, Failed}
 use Rattle.qdldl.specs.declared.Status.{Status}
-use Rattle.qdldl.specs.declared.Answer.{Answer}
-use Rattle.qdldl.specs.Calls.{Outcome, outcome, settled, status, is_empty}
+use Rattle.qdldl.specs.Calls.{Answer, refuse, Outcome, outcome, settled, status, is_empty}
 
 -- the permuted triangle, parents, counts and permuted signs; L, D and Dinv; scratch of all three kinds
 pub record FactorLent : Type 0 where
@@ -46,8 +45,8 @@ factor_refusals s l =
 unfoldable pub numeric_answer : Status → ℕ → Work → Answer
 numeric_answer s nnzl w =
     cond w.stopped
-    (Answer.Refused (ZeroPivot (length w.d - 1)) (status Failed s.n s.m nnzl 0 w.shifts))
-    (Answer.Done (status Numeric s.n s.m nnzl w.inertia w.shifts))
+    (Err (refuse (ZeroPivot (length w.d - 1)) (status Failed s.n s.m nnzl 0 w.shifts)))
+    (Ok (status Numeric s.n s.m nnzl w.inertia w.shifts))
 
 unfoldable pub numeric : Status → Regularisation → FactorLent → Outcome Tables
 numeric s reg l =
@@ -57,7 +56,7 @@ numeric s reg l =
 -- "Logical: .. inertia and shifts 0; .. and there is no ZeroPivot"
 unfoldable pub logical : Status → FactorLent → Outcome Tables
 logical s l =
-    outcome (Answer.Done (status Logical s.n s.m (total l.lnz) 0 0)) (logical_tables s.n l.P l.out)
+    outcome (Ok (status Logical s.n s.m (total l.lnz) 0 0)) (logical_tables s.n l.P l.out)
 
 unfoldable pub factor : Bool → Status → Regularisation → FactorLent → Outcome Tables
 factor onlyLogical s reg l =

@@ -1,5 +1,5 @@
 -- Document 01: solve and the three edits. Assumes nothing.
-use Rattle.std.specs.Prelude.{ℕ, ◌+◌, Bool, not, ◌||◌, List, [], leb, ℤ, Float, length}
+use Rattle.std.specs.Prelude.{ℕ, ◌+◌, Bool, not, ◌||◌, List, [], Ok, leb, ℤ, Float, length}
 use Rattle.desk.specs.Lists.{any, isnt, short}
 use Rattle.desk.specs.Desk.{Line, ◌⇒◌⨾◌, first, bad_size_later}
 use Rattle.desk.specs.declared.Refusal.TheVariants.{NotReady, BadSize, BadLength, InvalidPermutation, Spoiled, BadIndex}
@@ -7,7 +7,6 @@ use Rattle.order.specs.Order.{is_ordering}
 use Rattle.solve.specs.Solve.{solved, spoiled_l}
 use Rattle.edit.specs.Edit.{updated, scaled, offset}
 use Rattle.qdldl.specs.declared.Status.{Status}
-use Rattle.qdldl.specs.declared.Answer.{Answer}
 use Rattle.qdldl.specs.Calls.{Outcome, outcome, settled, is_empty, is_numeric}
 
 -- the ordering, L and Dinv; the right side, which the solution replaces; scratch of bytes and f64
@@ -40,7 +39,7 @@ solve_refusals s l =
 unfoldable pub solve : Status → SolveLent → Outcome (List Float)
 solve s l =
     settled (first (solve_refusals s l)) s l.b
-    (outcome (Answer.Done s) (solved s.n l.perm l.lp l.li l.lx l.dinv l.b))
+    (outcome (Ok s) (solved s.n l.perm l.lp l.li l.lx l.dinv l.b))
 
 -- "edits 1, 3, 4, 11, 12"; 4: "an edit's lists unequal or its permuted values not m, .. m for the map"; 11: "a map entry is m or
 -- more"; 12: "an edit index is m or more"
@@ -56,13 +55,13 @@ edit_refusals s map vals indices args =
 -- "Status stays"
 unfoldable pub update_values : Status → List ℕ → List ℕ → List Float → List Float → Outcome (List Float)
 update_values s map indices values vals =
-    settled (first (edit_refusals s map vals indices values)) s vals (outcome (Answer.Done s) (updated map indices values vals))
+    settled (first (edit_refusals s map vals indices values)) s vals (outcome (Ok s) (updated map indices values vals))
 
 unfoldable pub scale_values : Status → List ℕ → List ℕ → Float → List Float → Outcome (List Float)
 scale_values s map indices scale vals =
-    settled (first (edit_refusals s map vals indices indices)) s vals (outcome (Answer.Done s) (scaled map indices scale vals))
+    settled (first (edit_refusals s map vals indices indices)) s vals (outcome (Ok s) (scaled map indices scale vals))
 
 -- "(not in offset edits)": any sign is taken
 unfoldable pub offset_values : Status → List ℕ → List ℕ → Float → List ℤ → List Float → Outcome (List Float)
 offset_values s map indices off signs vals =
-    settled (first (edit_refusals s map vals indices signs)) s vals (outcome (Answer.Done s) (offset map indices off signs vals))
+    settled (first (edit_refusals s map vals indices signs)) s vals (outcome (Ok s) (offset map indices off signs vals))

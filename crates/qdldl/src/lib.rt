@@ -2,14 +2,19 @@
 #![tactic(auto)]
 
 ghost use Rattle.std.specs.Prelude.{◌≡◌, cond, [], ◌∷◌};
-ghost use Rattle.csc.specs.Csc.{matrix};
-ghost use Rattle.analysis.specs.Analysis.{written, analysis_lent};
+ghost use Rattle.csc.specs.Csc.{lent};
+ghost use Rattle.analysis.specs.Analysis.{analysis_lent};
+ghost use Rattle.analysis.specs.Lent.{tables_of, SameTables};
 ghost use Rattle.qdldl.specs.Analysing.{analysis};
 ghost use Rattle.qdldl.specs.Calls.{empty, Settles, is_empty, nnz_a, nnz_l, positive_inertia, regularize_count};
 
-use desk::{Refusal, Verdict};
+use analysis::Tables;
+use csc::CscMatrix;
+use desk::Refusal;
+use std::error::Error;
+use std::fmt;
 
-#[derive(Clone, Copy)]
+#[derive(Clone, Copy, Debug, PartialEq, Eq)]
 pub enum Phase {
     Empty,
     Analysed,
@@ -19,7 +24,7 @@ pub enum Phase {
 }
 
 // The order, the entries, the length of L, the pivots above zero and the shifts.
-#[derive(Clone, Copy)]
+#[derive(Clone, Copy, Debug, PartialEq, Eq)]
 pub struct Status {
     pub phase: Phase,
     pub n: usize,
@@ -29,24 +34,32 @@ pub struct Status {
     pub shifts: usize,
 }
 
-// What a call answers: done, or refused; either way with the next status.
-#[derive(Clone, Copy)]
-pub enum Answer {
-    Done(Status),
-    Refused(Refusal, Status),
+// A refusal, and the status that it leaves.
+#[derive(Clone, Copy, Debug, PartialEq, Eq)]
+pub struct Refused {
+    pub refusal: Refusal,
+    pub status: Status,
 }
+
+// The refusal by its number and in words.
+impl fmt::Display for Refused {
+    fn fmt<W: fmt::Write>(&self, f: &mut fmt::Formatter<W>) -> fmt::Result {
+        let number = u8::from(self.refusal);
+        let words = self.refusal;
+        write!(f, "refused {number}, {words}")
+    }
+}
+
+impl Error for Refused {}
+
+// What a call answers: the next status, or a refusal.
+pub type Answer = Result<Status, Refused>;
 
 // x, but 0 on Empty.
 fn read_out(phase: Phase, x: usize) -> usize
     ensures { result ≡ cond (is_empty phase) 0 x }
 {
-    match phase {
-        Phase::Empty => 0,
-        Phase::Analysed => x,
-        Phase::Logical => x,
-        Phase::Numeric => x,
-        Phase::Failed => x,
-    }
+    if phase == Phase::Empty { 0 } else { x }
 }
 
 impl Status {
@@ -68,106 +81,74 @@ impl Status {
     pub fn nnzA(self) -> usize
         ensures { result ≡ nnz_a self }
     {
-        let phase = self.phase;
-        read_out(phase, self.m)
+        read_out(self.phase, self.m)
     }
 
     // The entries of L, 0 on Empty.
     pub fn nnzL(self) -> usize
         ensures { result ≡ nnz_l self }
     {
-        let phase = self.phase;
-        read_out(phase, self.nnzl)
+        read_out(self.phase, self.nnzl)
     }
 
     // The pivots above zero, 0 on Empty.
     pub fn positive_inertia(self) -> usize
         ensures { result ≡ positive_inertia self }
     {
-        let phase = self.phase;
-        read_out(phase, self.inertia)
+        read_out(self.phase, self.inertia)
     }
 
     // The pivots that were shifted, 0 on Empty.
     pub fn regularize_count(self) -> usize
         ensures { result ≡ regularize_count self }
     {
-        let phase = self.phase;
-        read_out(phase, self.shifts)
+        read_out(self.phase, self.shifts)
     }
 
     // Analysis, from any status.
+    #[tactic(auto, unfolding(crate::specs::Analysing::analysis, crate::specs::Calls::settled))]
     pub fn analyse(
         self,
         nrows: usize,
         n: usize,
-        colptr: &[u32],
-        rowval: &[u32],
-        nzval: &[f64],
+        a: &CscMatrix<'_>,
         perm: &[u32],
         signs: &[i8],
-        pc: &mut [u32],
-        pr: &mut [u32],
-        pv: &mut [f64],
-        map: &mut [u32],
-        etree: &mut [u32],
-        lnz: &mut [u32],
-        dsigns: &mut [i8],
+        out: &mut Tables<'_>,
         iperm: &mut [u32],
         next: &mut [u32],
         work: &mut [u32],
     ) -> Answer
-        ensures { Settles (analysis self (analysis_lent nrows n (matrix colptr.now rowval.now nzval.now) perm.now signs.now (written (matrix pc.old pr.old pv.old) map.old etree.old lnz.old dsigns.old) (iperm.old ∷ next.old ∷ work.old ∷ []))) result (written (matrix pc.new pr.new pv.new) map.new etree.new lnz.new dsigns.new) }
+        ensures settles { Settles (analysis self (analysis_lent nrows n (lent a.now) perm.now signs.now (tables_of out.old) (iperm.old ∷ next.old ∷ work.old ∷ []))) result (tables_of out.new) }
+        ensures same { SameTables out.old out.new }
     {
-        let verdict = analysis::judge(
+        analysis::judge(
             nrows,
             n,
-            colptr,
-            rowval,
-            nzval,
+            a,
             perm,
             signs,
-            &pc[..],
-            &pr[..],
-            &pv[..],
-            &map[..],
-            &etree[..],
-            &lnz[..],
-            &dsigns[..],
+            out,
             &mut *iperm,
             &next[..],
             &work[..],
+        )
+        .map_err(|refusal| Refused {
+            refusal,
+            status: self,
+        })?;
+        let inverse = &iperm[..n];
+        let nnzl = analysis::compute(
+            a, perm, signs, out.pc, out.pr, out.pv, out.map, out.etree, out.lnz, out.dsigns,
+            inverse, next, work,
         );
-        match verdict {
-            Verdict::Refused(refusal) => Answer::Refused(refusal, self),
-            Verdict::Accepted => {
-                let nnzl = analysis::compute(
-                    colptr,
-                    rowval,
-                    nzval,
-                    perm,
-                    signs,
-                    pc,
-                    pr,
-                    pv,
-                    map,
-                    etree,
-                    lnz,
-                    dsigns,
-                    &iperm[..n],
-                    next,
-                    work,
-                );
-                let m = rowval.len();
-                Answer::Done(Status {
-                    phase: Phase::Analysed,
-                    n,
-                    m,
-                    nnzl,
-                    inertia: 0,
-                    shifts: 0,
-                })
-            }
-        }
+        Ok(Status {
+            phase: Phase::Analysed,
+            n,
+            m: a.rowval.len(),
+            nnzl,
+            inertia: 0,
+            shifts: 0,
+        })
     }
 }

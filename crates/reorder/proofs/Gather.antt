@@ -10,14 +10,12 @@ use borrow.Author.Tests.{eq-eqb, ne_eqb}
 use lib.ListN.{length, get_or, set, take, drop, length-set, length-append, length-drop, take-append-drop}
 use lib.Seq.{get_or-set_same, get_or-set_other, get_or-take, get_or-drop, ext_get_or, drop-drop, length-take-le}
 use Rattle.desk.specs.Lists.{tally, from, upto, join_all, over}
+use Rattle.desk.proofs.Upto.{from_range}
 use Rattle.desk.proofs.Tally.{tally-none, tally-here, tally-past, below, below_zero, below_suc, below_le, below_all}
+use Rattle.csc.proofs.Formed.{Each}
 use Rattle.reorder.specs.Reorder.{places, in_column, gathered}
 use Rattle.reorder.specs.Steps.{placed, Room}
 use Rattle.reorder.proofs.Steps.{bump, bump_kept, bump_grows, length-placed}
-
--- each of the list is below n
-abbrev pub Each : ℕ → List ℕ → Type 0
-Each n ks = (j : ℕ) → j < length ks → get_or ks j 0 < n
 
 -- the place p is none that the keys are yet to take
 abbrev Outside : ℕ → ℕ → List ℕ → List ℕ → Type 0
@@ -156,7 +154,7 @@ module _ {A : Type 0} (d : A) (n : ℕ) (ks : List ℕ) (xs : List A) (same : le
     front : filled ≡ gathered (upto n) ks xs ++ drop (below n ks) filled
     front =
         ap (λ (i : ℕ). drop i filled) (sym (below_zero ks))
-        ∙ joined filled (omega (arith, length-placed (places next ks) xs out)) holds 0 n (zero-add n)
+        ∙ rw (← from_range 0 n) (joined filled (omega (arith, length-placed (places next ks) xs out)) holds 0 n (zero-add n))
 
     rest : drop (length ks) filled ≡ drop (length ks) out
     rest =

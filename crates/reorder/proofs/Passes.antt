@@ -2,7 +2,7 @@
 use Prim.Native.Nat.{ℕ, ◌+◌, ◌-◌, ◌<◌, ◌≤◌}
 use mathlib.Core.Path.{◌≡◌, sym, ap, ◌∙◌}
 use mathlib.Core.List.{List, ◌++◌}
-use native.Mathlib.Nat.{sub-zero, zero-add}
+use native.Mathlib.Nat.{sub-zero}
 use native.Mathlib.Omega.{arith}
 use lib.Ieee.{Float}
 use lib.ListN.{length, get_or, take, drop, length-map, length-drop, take-append-drop}
@@ -11,9 +11,11 @@ use Rattle.desk.specs.Lists.{from}
 use Rattle.csc.specs.Csc.{column}
 use Rattle.reorder.specs.Reorder.{new_col, new_row, new_cols, new_rows, per_entry, places}
 use Rattle.reorder.specs.Steps.{advanced, cols_of, rows_of, ColumnReady, EntriesReady, Filled}
-use Rattle.reorder.proofs.Formed.{Formed, formed, ends, length-column, column-inside, entries_more, entries_none, length-entries}
+use Rattle.csc.proofs.Formed.{Formed, formed, ends, length-column, column-inside}
+use Rattle.reorder.proofs.Formed.{entries_more, entries_none, length-entries-upto}
 use Rattle.reorder.proofs.Steps.{room-first, length-places}
 use Rattle.desk.proofs.Over.{over-whole}
+use Rattle.desk.proofs.Upto.{from_range}
 use Rattle.reorder.proofs.Turns.{Left, left_all, left_on, left_none, Tables, Placing, placing_all, placing_on, placing_none}
 
 -- the new column, and the new row, of each entry from column c on
@@ -28,7 +30,7 @@ module _ {m : ℕ} {ptr rows iperm next₀ : List ℕ} (E : EntriesReady m ptr r
   well = formed (length iperm) ptr rows E.pointers E.formed
 
   pub pass_all : Left (length iperm) m (cols_from iperm ptr rows 0) next₀ (new_cols (length iperm) iperm ptr rows) next₀
-  pass_all = rw sub-zero (left_all E.room)
+  pass_all = rw (sub-zero, from_range 0 (length iperm)) (left_all E.room)
 
   module _ (next : List ℕ) (c : ℕ) (L : Left (length iperm) m (cols_from iperm ptr rows c) next (new_cols (length iperm) iperm ptr rows) next₀) where
     pub pass_done : length iperm ≤ c → next ≡ advanced (new_cols (length iperm) iperm ptr rows) next₀
@@ -56,9 +58,9 @@ module _ {m : ℕ} {ptr rows iperm next₀ : List ℕ} (E : EntriesReady m ptr r
 
   pub placing_begin : (nzval : List Float) (T : Tables) → Placing (get_or ptr 0 0) (length rows) (cols_from iperm ptr rows 0) (rows_from iperm ptr rows 0) (drop (get_or ptr 0 0) nzval) T (new_cols (length iperm) iperm ptr rows) (new_rows (length iperm) iperm ptr rows) nzval T
   placing_begin nzval T =
-      rw (sub-zero, well.first)
+      rw (sub-zero, well.first, from_range 0 (length iperm))
       (placing_all (length rows) (new_cols (length iperm) iperm ptr rows) (new_rows (length iperm) iperm ptr rows) nzval T
-      (omega (arith, length-entries well (new_col iperm) 0 (length iperm) (zero-add (length iperm)), well.first)))
+      (omega (arith, length-entries-upto well (new_col iperm), well.first)))
 
   module _ (c : ℕ) (h : c < length iperm) (part : List ℕ) (e : part ≡ column ptr rows c) {a z : ℕ} (p : a ≡ get_or ptr c 0) (q : z ≡ get_or ptr (c + 1) 0) where
     pub starts-below : a ≤ z

@@ -2,7 +2,6 @@
 use Prim.Native.Nat.{ℕ, suc, ◌^◌, ◌<◌, ◌≤◌}
 use mathlib.Core.Path.{◌≡◌, ap, ◌∙◌}
 use mathlib.Core.List.{List}
-use native.Mathlib.Nat.{zero-add}
 use native.Mathlib.Omega.{arith}
 use lib.Ieee.{Float, nan}
 use lib.ListN.{length, get_or, take, replicate, length-replicate, get_or-replicate}
@@ -13,8 +12,9 @@ use Rattle.csc.specs.Csc.{Csc}
 use Rattle.reorder.specs.Reorder.{new_col, new_row, new_cols, new_rows, starts, reordered, map_of}
 use Rattle.reorder.specs.Kernels.{Reorderable, Reordered}
 use Rattle.reorder.specs.Steps.{advanced, widest, room_of, EntriesReady, Filled}
-use Rattle.reorder.proofs.Formed.{Formed, formed, length-entries, each-entry}
-use Rattle.reorder.proofs.Gather.{Each, fills, places_same}
+use Rattle.csc.proofs.Formed.{Each, Formed, formed}
+use Rattle.reorder.proofs.Formed.{length-entries-upto, each-entry-upto}
+use Rattle.reorder.proofs.Gather.{fills, places_same}
 use Rattle.reorder.proofs.Starts.{length-starts, starts-at, counts}
 use Rattle.reorder.proofs.Steps.{length-advanced}
 use Rattle.desk.proofs.Over.{get_d_over, length_over}
@@ -30,13 +30,13 @@ module _ {iperm map₀ next₀ : List ℕ} {A P : Csc} (R : Reorderable iperm A 
   rows = new_rows (length iperm) iperm A.colptr A.rowval
 
   long_keys : length keys ≡ length A.rowval
-  long_keys = omega (arith, length-entries well (new_col iperm) 0 (length iperm) (zero-add (length iperm)), well.first)
+  long_keys = omega (arith, length-entries-upto well (new_col iperm), well.first)
 
   long-rows : length rows ≡ length A.rowval
-  long-rows = omega (arith, length-entries well (new_row iperm) 0 (length iperm) (zero-add (length iperm)), well.first)
+  long-rows = omega (arith, length-entries-upto well (new_row iperm), well.first)
 
   each : Each (length iperm) keys
-  each = each-entry well (new_col iperm) (length iperm) (λ c r h k. omega (arith, R.inverse c h, R.inverse r k)) 0 (length iperm) (zero-add (length iperm))
+  each = each-entry-upto well (new_col iperm) (length iperm) (λ c r h k. omega (arith, R.inverse c h, R.inverse r k))
 
   -- the counts are cleared
   module _ (next₁ : List ℕ) (cleared : next₁ ≡ over (replicate (length iperm) 0) next₀) where

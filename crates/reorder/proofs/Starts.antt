@@ -1,33 +1,18 @@
 -- The pointers: a column begins behind all entries of the columns before it, and the counts of the entries give the pointers. Assumes nothing.
 use Prim.Native.Nat.{ℕ, zero, suc, ◌+◌, ◌<◌, ◌≤◌}
-use mathlib.Core.Path.{◌≡◌, refl, sym, ap, ◌∙◌}
-use mathlib.Core.List.{List, [], ◌∷◌, map}
+use mathlib.Core.Path.{◌≡◌, sym, ap, ◌∙◌}
+use mathlib.Core.List.{List, map}
 use native.Mathlib.Nat.{zero-add}
 use native.Mathlib.Omega.{arith}
 use lib.ListN.{length, get_or, take}
 use lib.Seq.{ext_get_or, get_or-take, length-take-le}
 use Rattle.desk.specs.Lists.{tally, sums, from, upto}
+use Rattle.desk.proofs.Sums.{length-sums}
 use Rattle.desk.proofs.Tally.{below, below_zero, below_suc}
-use Rattle.desk.proofs.Upto.{length-upto, get_or-upto}
+use Rattle.desk.proofs.Upto.{from_range, length-upto, get_or-upto}
 use Rattle.reorder.specs.Reorder.{starts}
 use Rattle.reorder.specs.Steps.{advanced}
 use Rattle.reorder.proofs.Steps.{advanced-at, length-advanced}
-
-pub length-sums : (s : ℕ) (xs : List ℕ) → length (sums s xs) ≡ suc (length xs)
-unfolding sums
-length-sums s [] = refl
-length-sums s (x ∷ xs) = ap suc (length-sums (s + x) xs)
-
-pub sums_first : (s : ℕ) (xs : List ℕ) (d : ℕ) → get_or (sums s xs) 0 d ≡ s
-unfolding sums
-sums_first s [] d = refl
-sums_first s (x ∷ xs) d = refl
-
-pub sums_next : (s : ℕ) (xs : List ℕ) (c : ℕ) → c < length xs → get_or (sums s xs) (suc c) 0 ≡ get_or (sums s xs) c 0 + get_or xs c 0
-unfolding sums
-sums_next s [] c h = absurd (omega arith)
-sums_next s (x ∷ xs) zero h = sums_first (s + x) xs 0
-sums_next s (x ∷ xs) (suc c) h = sums_next (s + x) xs c (omega arith)
 
 pub length-starts : (n : ℕ) (ks : List ℕ) → length (starts n ks) ≡ suc n
 unfolding starts
@@ -46,7 +31,7 @@ module _ (ks : List ℕ) where
   unfolding starts
   starts-at n c h =
       ap (λ (s : ℕ). get_or (sums s (map (λ c. tally c ks) (upto n))) c 0) (sym (below_zero ks))
-      ∙ sums_at 0 n c h
+      ∙ rw (← from_range 0 n) (sums_at 0 n c h)
       ∙ ap (λ (v : ℕ). below v ks) (zero-add c)
 
   -- counted from 0, the keys give how often each stands among them

@@ -1,28 +1,16 @@
 // The reordered triangle. Entry (r, c) goes to column max(iperm[r], iperm[c]), row the minimum; columns fill in input storage order.
+// next, pr and pv come one by one: three words at a call, of which a type of their own would say no more.
 #![tactic(auto)]
 
 ghost use Rattle.std.specs.Prelude.{◌≡◌, ℕ, ◌+◌, ◌^◌, ◌<◌, ◌≤◌, min, max, length, get_or, take, set};
 ghost use Rattle.desk.specs.Lists.{sums, over};
+ghost use Rattle.csc.specs.Csc.{matrix, lent};
 ghost use Rattle.reorder.specs.Reorder.{new_cols, new_rows};
 ghost use Rattle.reorder.specs.Kernels.{Reorderable, Reordered};
 ghost use Rattle.reorder.specs.Steps.{ColumnReady, EntriesReady, Filled, advanced, cols_of, rows_of, room_of, widest};
 
-use csc::column;
+use csc::{CscMatrix, accumulate, copy_starts};
 use desk::{fill, wide};
-
-// The larger of two numbers of a table.
-fn max(a: u32, b: u32) -> u32
-    ensures { result ≡ max a b }
-{
-    if a < b { b } else { a }
-}
-
-// The smaller of two numbers of a table.
-fn min(a: u32, b: u32) -> u32
-    ensures { result ≡ min a b }
-{
-    if a < b { a } else { b }
-}
 
 // Counts the rows of column c, each at its new column.
 fn count_column(rows: &[u32], c: usize, iperm: &[u32], next: &mut [u32])
@@ -30,54 +18,20 @@ fn count_column(rows: &[u32], c: usize, iperm: &[u32], next: &mut [u32])
     ensures { next.new ≡ advanced (cols_of iperm.now c rows.now) next.old }
 {
     let at = iperm[c];
-    let mut j: usize = 0;
-    while j < rows.len() {
-        let r = wide(rows[j]);
-        let k = wide(max(iperm[r], at));
-        next[k] = next[k] + 1;
-        j += 1;
+    for row in rows {
+        let r = wide(*row);
+        let k = wide(iperm[r].max(at));
+        next[k] += 1;
     }
 }
 
-// Counts the entries, each at its new column.
-fn count_entries(colptr: &[u32], rowval: &[u32], iperm: &[u32], next: &mut [u32])
-    requires { EntriesReady widest colptr.now rowval.now iperm.now next.old }
-    ensures { next.new ≡ advanced (new_cols (length iperm.now) iperm.now colptr.now rowval.now) next.old }
+// Counts the entries of a, each at its new column.
+fn count_entries(a: &CscMatrix<'_>, iperm: &[u32], next: &mut [u32])
+    requires { EntriesReady widest a.now.colptr.now a.now.rowval.now iperm.now next.old }
+    ensures { next.new ≡ advanced (new_cols (length iperm.now) iperm.now a.now.colptr.now a.now.rowval.now) next.old }
 {
-    let mut c: usize = 0;
-    while c < iperm.len() {
-        count_column(column(colptr, rowval, c), c, iperm, next);
-        c += 1;
-    }
-}
-
-// Writes the pointers: 0, and the sums of the first n counts.
-fn accumulate(next: &[u32], n: usize, pc: &mut [u32])
-    requires n_in_bounds { n ≤ length next.now }
-    requires n_in_bounds_2 { n + 1 ≤ length pc.old }
-    requires by_index { (c : ℕ) → c ≤ n → get_or (sums 0 (take n next.now)) c 0 < 2 ^ 32 }
-    ensures { pc.new ≡ over (sums 0 (take n next.now)) pc.old }
-{
-    pc[0] = 0;
-    let mut acc: u32 = 0;
-    let mut c: usize = 0;
-    while c < n {
-        acc = acc + next[c];
-        pc[c + 1] = acc;
-        c += 1;
-    }
-}
-
-// Copies the first n pointers: each column's next free place is its first.
-fn copy_starts(pc: &[u32], n: usize, next: &mut [u32])
-    requires n_in_bounds { n ≤ length pc.now }
-    requires n_in_bounds_2 { n ≤ length next.old }
-    ensures { next.new ≡ over (take n pc.now) next.old }
-{
-    let mut c: usize = 0;
-    while c < n {
-        next[c] = pc[c];
-        c += 1;
+    for c in 0..iperm.len() {
+        count_column(a.rows(c), c, iperm, next);
     }
 }
 
@@ -122,41 +76,36 @@ fn fill_column(
     ensures { Filled (cols_of iperm.now c rows.now) (rows_of iperm.now c rows.now) vals.now next.old next.new pr.old pr.new pv.old pv.new map.old map.new }
 {
     let at = iperm[c];
-    let mut j: usize = 0;
-    while j < rows.len() {
-        let r = wide(rows[j]);
+    for (j, listed) in rows.iter().enumerate() {
+        let r = wide(*listed);
         let row = iperm[r];
-        let k = wide(max(row, at));
-        let place = place_entry(k, min(row, at), vals[j], next, pr, pv);
+        let k = wide(row.max(at));
+        let place = place_entry(k, row.min(at), vals[j], next, pr, pv);
         map[j] = place;
-        j += 1;
     }
 }
 
-// Writes all entries, each at the next free place of its new column, and these places to map.
+// Writes all entries of a, each at the next free place of its new column, and these places to map.
 fn fill_entries(
-    colptr: &[u32],
-    rowval: &[u32],
-    nzval: &[f64],
+    a: &CscMatrix<'_>,
     iperm: &[u32],
     next: &mut [u32],
     pr: &mut [u32],
     pv: &mut [f64],
     map: &mut [u32],
 )
-    requires entries_ready { EntriesReady (room_of pr.old pv.old) colptr.now rowval.now iperm.now next.old }
-    requires nzval_len { length nzval.now ≡ length rowval.now }
-    requires rowval_in_bounds { length rowval.now ≤ length map.old }
-    ensures { Filled (new_cols (length iperm.now) iperm.now colptr.now rowval.now) (new_rows (length iperm.now) iperm.now colptr.now rowval.now) nzval.now next.old next.new pr.old pr.new pv.old pv.new map.old map.new }
+    requires entries_ready { EntriesReady (room_of pr.old pv.old) a.now.colptr.now a.now.rowval.now iperm.now next.old }
+    requires nzval_len { length a.now.nzval.now ≡ length a.now.rowval.now }
+    requires rowval_in_bounds { length a.now.rowval.now ≤ length map.old }
+    ensures { Filled (new_cols (length iperm.now) iperm.now a.now.colptr.now a.now.rowval.now) (new_rows (length iperm.now) iperm.now a.now.colptr.now a.now.rowval.now) a.now.nzval.now next.old next.new pr.old pr.new pv.old pv.new map.old map.new }
 {
-    let mut c: usize = 0;
-    while c < iperm.len() {
-        let rows = column(colptr, rowval, c);
-        let first = wide(colptr[c]);
-        let last = wide(colptr[c + 1]);
+    for c in 0..iperm.len() {
+        let rows = a.rows(c);
+        let first = wide(a.colptr[c]);
+        let last = wide(a.colptr[c + 1]);
         fill_column(
             rows,
-            &nzval[first..last],
+            &a.nzval[first..last],
             c,
             iperm,
             next,
@@ -164,15 +113,12 @@ fn fill_entries(
             pv,
             &mut map[first..last],
         );
-        c += 1;
     }
 }
 
-// Writes the reordered triangle to the fronts of pc, pr and pv, and each entry's new place to map. next is scratch.
+// Writes the reordered triangle of a to the fronts of pc, pr and pv, and each entry's new place to map. next is scratch.
 pub fn permute_symmetric(
-    colptr: &[u32],
-    rowval: &[u32],
-    nzval: &[f64],
+    a: &CscMatrix<'_>,
     iperm: &[u32],
     pc: &mut [u32],
     pr: &mut [u32],
@@ -180,13 +126,13 @@ pub fn permute_symmetric(
     map: &mut [u32],
     next: &mut [u32],
 )
-    requires { Reorderable iperm.now (record { colptr = colptr.now; rowval = rowval.now; nzval = nzval.now }) (record { colptr = pc.old; rowval = pr.old; nzval = pv.old }) map.old next.old }
-    ensures { Reordered iperm.now (record { colptr = colptr.now; rowval = rowval.now; nzval = nzval.now }) (record { colptr = pc.old; rowval = pr.old; nzval = pv.old }) (record { colptr = pc.new; rowval = pr.new; nzval = pv.new }) map.old map.new }
+    requires { Reorderable iperm.now (lent a.now) (matrix pc.old pr.old pv.old) map.old next.old }
+    ensures { Reordered iperm.now (lent a.now) (matrix pc.old pr.old pv.old) (matrix pc.new pr.new pv.new) map.old map.new }
 {
     let n = iperm.len();
     fill(next, n, 0);
-    count_entries(colptr, rowval, iperm, next);
+    count_entries(a, iperm, next);
     accumulate(next, n, pc);
     copy_starts(pc, n, next);
-    fill_entries(colptr, rowval, nzval, iperm, next, pr, pv, map);
+    fill_entries(a, iperm, next, pr, pv, map);
 }

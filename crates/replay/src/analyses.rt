@@ -1,11 +1,10 @@
 // The analysis of a vector, and the tables that it leaves.
-use crate::field::{
-    ROOM, front_f64s, front_i8s, front_u32s, has_f64s, has_i8s, has_u32s, read_f64s, read_i8s,
-    read_one, read_u32s,
-};
-use crate::tally::{Outcome, judged};
+use crate::field::{ROOM, front, has, read, read_one};
+use crate::tally::Outcome;
+use analysis::Tables;
+use csc::CscMatrix;
 use desk::wide;
-use qdldl::{Answer, Status};
+use qdldl::Status;
 
 // The sum of the counts.
 fn total(counts: &[u32]) -> usize {
@@ -14,117 +13,66 @@ fn total(counts: &[u32]) -> usize {
         .fold(0, |sum: usize, count| sum.wrapping_add(wide(*count)))
 }
 
-// Whether the tables of an analysis are the vector's.
-fn tables(
-    vector: &[u8],
-    status: Status,
-    pc: &[u32],
-    pr: &[u32],
-    map: &[u32],
-    etree: &[u32],
-    lnz: &[u32],
-    dsigns: &[i8],
-) -> bool {
+// Whether the tables of an analysis are the vector's, whose matrix has that many pointers.
+fn tables(vector: &[u8], status: Status, pointers: usize, out: &Tables<'_>) -> bool {
     let n = status.n;
     let m = status.m;
-    let counts = front_u32s(lnz, n);
-    has_u32s(vector, b"Ap", pc)
-        & has_u32s(vector, b"Ai", front_u32s(pr, m))
-        & has_u32s(vector, b"AtoPAPt", front_u32s(map, m))
-        & has_u32s(vector, b"etree", front_u32s(etree, n))
-        & has_u32s(vector, b"Lnz", counts)
-        & has_i8s(vector, b"permuted_Dsigns", front_i8s(dsigns, n))
+    let counts = front(out.lnz, n);
+    has(vector, b"Ap", front(out.pc, pointers))
+        & has(vector, b"Ai", front(out.pr, m))
+        & has(vector, b"AtoPAPt", front(out.map, m))
+        & has(vector, b"etree", front(out.etree, n))
+        & has(vector, b"Lnz", counts)
+        & has(vector, b"permuted_Dsigns", front(out.dsigns, n))
         & (status.nnzl == total(counts))
 }
 
 // Whether an edit follows, or the values are the vector's.
 fn values(vector: &[u8], m: usize, vals: &[f64]) -> bool {
-    if read_one(vector, b"edits") == 0 {
-        return has_f64s(vector, b"Ax", front_f64s(vals, m));
-    }
-    true
+    read_one(vector, b"edits") != Some(0) || has(vector, b"Ax", front(vals, m))
 }
 
-// Analyses the matrix, and says whether the tables are the vector's.
-fn analyse(
-    vector: &[u8],
-    colptr: &[u32],
-    rowval: &[u32],
-    nzval: &[f64],
-    perm: &[u32],
-    signs: &[i8],
-    map: &mut [u32],
-    vals: &mut [f64],
-) -> bool {
-    let n = read_one(vector, b"n");
-    let mut pc = [0u32; ROOM];
-    let mut pr = [0u32; ROOM];
-    let mut etree = [0u32; ROOM];
-    let mut lnz = [0u32; ROOM];
-    let mut dsigns = [0i8; ROOM];
-    let mut iperm = [0u32; ROOM];
-    let mut next = [0u32; ROOM];
-    let mut work = [0u32; ROOM];
-    let answer = Status::empty().analyse(
-        n,
-        n,
-        colptr,
-        rowval,
-        nzval,
-        perm,
-        signs,
-        &mut pc,
-        &mut pr,
-        &mut *vals,
-        &mut *map,
-        &mut etree,
-        &mut lnz,
-        &mut dsigns,
-        &mut iperm,
-        &mut next,
-        &mut work,
-    );
-    match answer {
-        Answer::Refused(_, _) => false,
-        Answer::Done(status) => {
-            let same = tables(
-                vector,
-                status,
-                front_u32s(&pc, colptr.len()),
-                &pr,
-                &map[..],
-                &etree,
-                &lnz,
-                &dsigns,
-            );
-            same & values(vector, rowval.len(), &vals[..])
-        }
-    }
-}
-
-// Replays the analysis, with the map and the values that it leaves.
-pub fn replay(vector: &[u8], map: &mut [u32], vals: &mut [f64]) -> Outcome {
+// Analyses the matrix, and says whether the tables are the vector's, where the matrix can be read and is not refused.
+fn analysed(vector: &[u8], map: &mut [u32], vals: &mut [f64]) -> Option<bool> {
     let mut colptr = [0u32; ROOM];
     let mut rowval = [0u32; ROOM];
     let mut nzval = [0f64; ROOM];
     let mut perm = [0u32; ROOM];
     let mut signs = [0i8; ROOM];
-    let p = read_u32s(vector, b"colptr", &mut colptr);
-    let m = read_u32s(vector, b"rowval", &mut rowval);
-    let v = read_f64s(vector, b"nzval", &mut nzval);
-    let n = read_u32s(vector, b"perm", &mut perm);
-    let s = read_i8s(vector, b"Dsigns", &mut signs);
-    if (ROOM < p) | (ROOM < m) | (ROOM < v) | (ROOM < n) | (ROOM < s) {
-        return Outcome::Differs;
-    }
-    judged(analyse(
-        vector,
-        front_u32s(&colptr, p),
-        front_u32s(&rowval, m),
-        front_f64s(&nzval, v),
-        front_u32s(&perm, n),
-        front_i8s(&signs, s),
+    let a = CscMatrix {
+        colptr: read(vector, b"colptr", &mut colptr)?,
+        rowval: read(vector, b"rowval", &mut rowval)?,
+        nzval: read(vector, b"nzval", &mut nzval)?,
+    };
+    let perm = read(vector, b"perm", &mut perm)?;
+    let signs = read(vector, b"Dsigns", &mut signs)?;
+    let n = read_one(vector, b"n")?;
+    let mut out = Tables {
+        pc: &mut [0; ROOM],
+        pr: &mut [0; ROOM],
+        pv: vals,
         map,
-        vals,
-    ))
+        etree: &mut [0; ROOM],
+        lnz: &mut [0; ROOM],
+        dsigns: &mut [0; ROOM],
+    };
+    let status = Status::empty()
+        .analyse(
+            n,
+            n,
+            &a,
+            perm,
+            signs,
+            &mut out,
+            &mut [0; ROOM],
+            &mut [0; ROOM],
+            &mut [0; ROOM],
+        )
+        .ok()?;
+    Some(tables(vector, status, a.colptr.len(), &out) & values(vector, a.rowval.len(), out.pv))
+}
+
+// Replays the analysis, with the map and the values that it leaves.
+pub fn replay(vector: &[u8], map: &mut [u32], vals: &mut [f64]) -> Outcome {
+    Outcome::from(analysed(vector, map, vals).unwrap_or(false))
 }

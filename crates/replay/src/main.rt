@@ -11,70 +11,63 @@ mod word;
 
 use field::{ROOM, read_one};
 use page::{extent, from};
-use say::text;
 use std::io;
 use std::io::{ErrorKind, Read};
 use tally::Tally;
 
-// More bytes than the vectors have.
+// More bytes than the vectors have: no program here takes memory from the heap.
 const PAGE: usize = 262144;
 
 // A tally for each part of a vector.
-#[derive(Clone, Copy)]
+#[derive(Clone, Copy, Debug, Default, PartialEq, Eq)]
 struct Tallies {
     analyses: Tally,
     edits: Tally,
     solves: Tally,
 }
 
-// Replays one vector.
-fn replay(vector: &[u8], tallies: Tallies) -> Tallies {
-    let mut map = [0u32; ROOM];
-    let mut vals = [0f64; ROOM];
-    let analysed = analyses::replay(vector, &mut map, &mut vals);
-    let edited = edits::replay(vector, &map, &mut vals);
-    let solved = solves::replay(vector);
-    let analyses = tallies.analyses;
-    let edits = tallies.edits;
-    let solves = tallies.solves;
-    Tallies {
-        analyses: analyses.with(analysed),
-        edits: edits.with(edited),
-        solves: solves.with(solved),
+impl Tallies {
+    // The tallies with one vector more, which is replayed.
+    fn with(self, vector: &[u8]) -> Self {
+        let mut map = [0u32; ROOM];
+        let mut vals = [0f64; ROOM];
+        let analysed = analyses::replay(vector, &mut map, &mut vals);
+        let edited = edits::replay(vector, &map, &mut vals);
+        Self {
+            analyses: self.analyses.with(analysed),
+            edits: self.edits.with(edited),
+            solves: self.solves.with(solves::replay(vector)),
+        }
     }
 }
 
 // Replays each vector.
 fn replay_all(vectors: &[u8]) -> Tallies {
-    let mut tallies = Tallies {
-        analyses: Tally::new(),
-        edits: Tally::new(),
-        solves: Tally::new(),
-    };
-    let mut at: usize = 0;
-    while at < vectors.len() {
-        let rest = &vectors[at..];
-        let size = extent(rest, b"n");
-        tallies = replay(&rest[0..size], tallies);
-        at += size;
+    let mut rest = vectors;
+    let mut tallies = Tallies::default();
+    while !rest.is_empty() {
+        let (vector, others) = rest.split_at(extent(rest, b"n"));
+        tallies = tallies.with(vector);
+        rest = others;
     }
     tallies
 }
 
 // Replays the page, and says what came of it.
 fn report(rt: &impl Print, page: &[u8]) -> io::Result<()> {
-    let tallies = replay_all(from(page, b"n"));
-    let analyses = tallies.analyses;
-    let edits = tallies.edits;
-    let solves = tallies.solves;
+    let Tallies {
+        analyses,
+        edits,
+        solves,
+    } = replay_all(from(page, b"n"));
     let found = analyses.replayed;
     println!(rt; "{found} vectors")?;
-    if read_one(page, b"vectors") as u64 != found {
-        text(rt, b"the page says another number of vectors\n")?;
+    if read_one(page, b"vectors").map(|said| said as u64) != Some(found) {
+        println!(rt; "the page says another number of vectors")?;
     }
-    analyses.say(rt, b"analysis")?;
-    edits.say(rt, b"edits")?;
-    solves.say(rt, b"solve")
+    println!(rt; "analysis: {analyses}")?;
+    println!(rt; "edits: {edits}")?;
+    println!(rt; "solve: {solves}")
 }
 
 // Reads until the page is full or the input ends, and answers how many bytes came.
@@ -104,6 +97,6 @@ fn main(rt: HostRuntime) -> io::Result<()> {
     if n < PAGE {
         report(&rt, &page[..n])
     } else {
-        text(&rt, b"the vectors do not fit\n")
+        println!(rt; "the vectors do not fit")
     }
 }

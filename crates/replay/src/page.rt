@@ -5,57 +5,42 @@ ghost use Rattle.std.specs.Prelude.{◌<◌, ◌≤◌, length};
 fn until(bytes: &[u8], mark: u8) -> usize
     ensures { result ≤ length bytes.now }
 {
-    for (i, byte) in bytes.iter().enumerate() {
-        if *byte == mark {
-            return i;
-        }
-    }
-    bytes.len()
-}
-
-// How many bytes stand up to the first mark, with the mark.
-pub fn through(bytes: &[u8], mark: u8) -> usize
-    ensures within { result ≤ length bytes.now }
-    ensures moves { 0 < length bytes.now → 0 < result }
-{
-    let end = until(bytes, mark);
-    if end < bytes.len() {
-        end + 1
-    } else {
-        bytes.len()
-    }
+    bytes
+        .iter()
+        .position(|byte| *byte == mark)
+        .unwrap_or(bytes.len())
 }
 
 // What stands before the first mark.
 pub fn first(bytes: &[u8], mark: u8) -> &[u8] {
-    let end = until(bytes, mark);
-    &bytes[0..end]
+    &bytes[..until(bytes, mark)]
 }
 
 // What stands after the first mark.
-pub fn past(bytes: &[u8], mark: u8) -> &[u8] {
-    let start = through(bytes, mark);
-    &bytes[start..]
-}
-
-// Whether two words are the same.
-pub fn same(a: &[u8], b: &[u8]) -> bool {
-    a == b
+pub fn past(bytes: &[u8], mark: u8) -> &[u8]
+    ensures within { length result.now ≤ length bytes.now }
+    ensures moves { 0 < length bytes.now → length result.now < length bytes.now }
+{
+    let end = until(bytes, mark);
+    if end < bytes.len() {
+        &bytes[end + 1..]
+    } else {
+        &bytes[end..]
+    }
 }
 
 // The page from its first line of that name on, nothing where there is none.
 pub fn from<'p, 'n>(page: &'p [u8], name: &'n [u8]) -> &'p [u8]
     ensures { length result.now ≤ length page.now }
 {
-    let mut at: usize = 0;
-    while at < page.len() {
-        let rest = &page[at..];
-        if same(first(rest, b' '), name) {
+    let mut rest = page;
+    while !rest.is_empty() {
+        if first(rest, b' ') == name {
             return rest;
         }
-        at += through(rest, b'\n');
+        rest = past(rest, b'\n');
     }
-    &page[at..]
+    rest
 }
 
 // How many marks there are.
@@ -68,7 +53,5 @@ pub fn extent(page: &[u8], name: &[u8]) -> usize
     ensures within { result ≤ length page.now }
     ensures moves { 0 < length page.now → 0 < result }
 {
-    let start = through(page, b'\n');
-    let next = from(&page[start..], name);
-    page.len() - next.len()
+    page.len() - from(past(page, b'\n'), name).len()
 }

@@ -1,61 +1,51 @@
 // What the replays come to, and how many of them differ.
-use say::text;
-use std::io;
+use std::fmt;
 
-// What a replay comes to.
-#[derive(Clone, Copy)]
+// What a replay comes to: three cases, each by its name.
+#[derive(Clone, Copy, Debug, PartialEq, Eq)]
 pub enum Outcome {
     Absent,
     Same,
     Differs,
 }
 
+// The outcome of a comparison.
+impl From<bool> for Outcome {
+    fn from(same: bool) -> Outcome {
+        if same {
+            Outcome::Same
+        } else {
+            Outcome::Differs
+        }
+    }
+}
+
 // How many were replayed, and how many of these differ.
-#[derive(Clone, Copy)]
+#[derive(Clone, Copy, Debug, Default, PartialEq, Eq)]
 pub struct Tally {
     pub replayed: u64,
     pub differ: u64,
 }
 
 impl Tally {
-    // Nothing replayed yet.
-    pub fn new() -> Self {
-        Self {
-            replayed: 0,
-            differ: 0,
-        }
-    }
-
     // The tally with one outcome more.
     pub fn with(self, outcome: Outcome) -> Self {
         let replayed = self.replayed.wrapping_add(1);
         match outcome {
             Outcome::Absent => self,
-            Outcome::Same => Self {
-                replayed,
-                differ: self.differ,
-            },
+            Outcome::Same => Self { replayed, ..self },
             Outcome::Differs => Self {
                 replayed,
                 differ: self.differ.wrapping_add(1),
             },
         }
     }
-
-    // Says the tally under its name.
-    pub fn say(self, rt: &impl Print, name: &[u8]) -> io::Result<()> {
-        let replayed = self.replayed;
-        let differ = self.differ;
-        text(rt, name)?;
-        println!(rt; ": {replayed} replayed, {differ} differ")
-    }
 }
 
-// The outcome of a comparison.
-pub fn judged(same: bool) -> Outcome {
-    if same {
-        Outcome::Same
-    } else {
-        Outcome::Differs
+impl fmt::Display for Tally {
+    fn fmt<W: fmt::Write>(&self, f: &mut fmt::Formatter<W>) -> fmt::Result {
+        let replayed = self.replayed;
+        let differ = self.differ;
+        write!(f, "{replayed} replayed, {differ} differ")
     }
 }

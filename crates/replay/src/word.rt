@@ -3,82 +3,91 @@ ghost use Rattle.std.specs.Prelude.{◌≤◌};
 
 use std::num::{f64_from_bits_with_nan, f64_to_bits_with_nan};
 
-// What stands for no number: past every whole number of the page, and a NaN that it never writes.
-pub const NONE: u64 = u64::MAX;
+// What the numbers of a field are.
+pub trait Word: Copy {
+    // The number that a word spells, if it spells one.
+    fn spelt(word: &[u8]) -> Option<Self>;
 
-// The value of a digit, 16 for any other byte.
-fn digit(byte: u8) -> u64 {
+    // Whether two numbers are the same.
+    fn alike(self, other: Self) -> bool;
+}
+
+// The value of a digit of a base up to 16.
+fn digit(byte: u8) -> Option<u64> {
     match byte {
-        48..=57 => (byte - 48) as u64,
-        97..=102 => (byte - 87) as u64,
-        _ => 16,
+        b'0'..=b'9' => Some(u64::from(byte - b'0')),
+        b'a'..=b'f' => Some(u64::from(byte - b'a') + 10),
+        _ => None,
     }
 }
 
-// The number in that base, or NONE.
-fn number(word: &[u8], base: u64) -> u64
+// The number in that base.
+fn number(word: &[u8], base: u64) -> Option<u64>
     requires { base ≤ 16 }
 {
-    if word.len() == 0 {
-        return NONE;
+    if word.is_empty() {
+        return None;
     }
     let mut x: u64 = 0;
     for byte in word {
-        let d = digit(*byte);
+        let d = digit(*byte)?;
         if base <= d {
-            return NONE;
+            return None;
         }
         if 0xfff_ffff_ffff_ffff < x {
-            return NONE;
+            return None;
         }
         x = x * base + d;
     }
-    x
+    Some(x)
 }
 
-// A whole number, or NONE.
-pub fn whole(word: &[u8]) -> u64 {
+// A whole number.
+pub fn whole(word: &[u8]) -> Option<u64> {
     number(word, 10)
 }
 
-// The 16 digits of a float's bits, or NONE.
-pub fn bits(word: &[u8]) -> u64 {
-    if word.len() == 16 {
-        number(word, 16)
-    } else {
-        NONE
+impl Word for u32 {
+    fn spelt(word: &[u8]) -> Option<u32> {
+        u32::try_from(whole(word)?).ok()
+    }
+
+    fn alike(self, other: u32) -> bool {
+        self == other
     }
 }
 
-// A number from -128 to 127, plus 128, or NONE.
-pub fn signed(word: &[u8]) -> u64 {
-    if 0 < word.len() {
-        if word[0] == b'-' {
-            let below = whole(&word[1..]);
-            return if below <= 128 { 128 - below } else { NONE };
+impl Word for i8 {
+    fn spelt(word: &[u8]) -> Option<i8> {
+        match word {
+            [b'-', digits @ ..] => {
+                let below = i64::try_from(whole(digits)?).ok()?;
+                i8::try_from(-below).ok()
+            }
+            _ => i8::try_from(whole(word)?).ok(),
         }
     }
-    let above = whole(word);
-    if above <= 127 { 128 + above } else { NONE }
-}
 
-// The number that is 128 less, 0 where it is no i8.
-pub fn sign(raised: u64) -> i8 {
-    if raised < 128 {
-        !((127 - raised) as i8)
-    } else if raised < 256 {
-        (raised - 128) as i8
-    } else {
-        0
+    fn alike(self, other: i8) -> bool {
+        self == other
     }
 }
 
-// The float of the bits, any NaN as the one NaN.
-pub fn float(bits: u64) -> f64 {
-    f64_from_bits_with_nan(bits)
-}
+// The 16 digits of the bits, any NaN as the one NaN; all ones are none that the page writes.
+impl Word for f64 {
+    fn spelt(word: &[u8]) -> Option<f64> {
+        if word.len() != 16 {
+            return None;
+        }
+        let bits = number(word, 16)?;
+        if bits == u64::MAX {
+            return None;
+        }
+        Some(f64_from_bits_with_nan(bits))
+    }
 
-// Whether two floats have the same bits, or are both a NaN.
-pub fn alike(x: f64, y: f64) -> bool {
-    f64_to_bits_with_nan(x) == f64_to_bits_with_nan(y)
+    // The same bits, or both a NaN, which no derived `==` says.
+    fn alike(self, other: f64) -> bool {
+        f64_to_bits_with_nan(self) == f64_to_bits_with_nan(other)
+    }
 }

@@ -1,7 +1,8 @@
 -- A row that clears as it goes, beside the row of the definition: the same D[k], rows and values, a y of zeros at the end, and L's columns
 -- with row k. Assumes nothing.
 use Prim.Native.Nat.{ℕ, suc, ◌<◌}
-use mathlib.Core.Path.{◌≡◌, refl}
+use mathlib.Core.Path.{◌≡◌, refl, sym, subst}
+use borrow.Author.Tests.{eq-eqb}
 use mathlib.Core.Bool.{Bool, true, false}
 use mathlib.Core.Logic.{inl, inr, ⊎_elim}
 use mathlib.Core.List.{List, [], ◌∷◌}
@@ -65,13 +66,15 @@ module _ {g : ℕ → ℕ → Bool} {par : ℕ → ℕ} {n k c : ℕ} {rest : Li
 
   -- it lists just its rows below k
   pub along_lists : k < n → get_or z.rows c [] ≡ later k g c
-  along_lists kn = rw (in_here c rest) at (x.shape.each c (omega (arith, along_below)))
+  along_lists kn = rw (eq-eqb c c refl) at (x.shape.each c (omega (arith, along_below)))
 
 module _ {g : ℕ → ℕ → Bool} {n : ℕ} {par : ℕ → ℕ} (P : Parents g n par) {k : ℕ} (kn : k < n) where
   module _ {c : ℕ} {rest : List ℕ} {w z : Row} (x : Along g par n k (c ∷ rest) w z) where
     -- the places that it touches are still to come, and inside
     pub along_touched : (q : ℕ) → q < length (get_or z.rows c []) → In (get_or (get_or z.rows c []) q 0) (c ∷ rest) × (get_or (get_or z.rows c []) q 0 < n)
-    along_touched = rw (along_lists x kn) (λ q l.
+    along_touched =
+        let Touched : List ℕ → Type 0 = λ xs. (q : ℕ) → q < length xs → In (get_or xs q 0) (c ∷ rest) × (get_or xs q 0 < n) in
+        subst Touched (sym (along_lists x kn)) (λ q l.
         let r = get_or (later k g c) q 0 in
         let t = in_tally r (later k g c) (in_at (later k g c) q l) in
         let b = listed_below g k c r (along_below x) t in

@@ -10,12 +10,12 @@ use borrow.Author.Tests.{ne_eqb}
 use lib.Ieee.{Float, nan}
 use lib.ListN.{length, get_or, set, take, drop, replicate, length-set, length-append, length-replicate, get_or-replicate}
 use lib.Seq.{slice, get_or-set_same, get_or-set_other, get_or-take, ext_get_or}
-use Rattle.desk.specs.Lists.{any, total}
+use Rattle.desk.specs.Lists.{total}
 use Rattle.tree.specs.Strike.{later, parents, counts, pointers_of_l}
 use Rattle.pivot.specs.Pivots.{◌⊗◌}
 use Rattle.row.specs.Row.{Row, visits, eliminate, eliminate_all, row_of}
 use Rattle.row.specs.Kernels.{Out, up, Marked, given, Climb, grown, Free, Held, Eliminable, Eliminated, Setting, Ordered, Rowed}
-use Rattle.row.proofs.Members.{in_here, out_none}
+use Rattle.row.proofs.Members.{in_here}
 use Rattle.row.proofs.Paths.{table_up}
 use Rattle.row.proofs.Order.{climb-below, climb_apart}
 use Rattle.row.proofs.Shape.{given_other, given_more, given-start}
@@ -26,7 +26,6 @@ use Rattle.row.proofs.Middle.{next_place, next_part_li, next_part_lx, next-li, n
 
 -- a mark is cleared where its unknown leaves the list
 pub mark_less : (c : ℕ) (rest marks : List ℕ) → Marked (c ∷ rest) marks → Out c rest → c < length marks → Marked rest (set marks c 0)
-unfolding any
 mark_less c rest marks m o h i l = elim (ℕ_discrete i c) [
   | yes e ↦ rw (e, get_or-set_same marks c 0 0 h, o)
   | no ne ↦ rw (get_or-set_other marks c i 0 0 ne) (m i (simp length-set at l) ∙ rw (ne_eqb i c ne))
@@ -36,7 +35,7 @@ mark_less c rest marks m o h i l = elim (ℕ_discrete i c) [
 pub mark-none : (n : ℕ) (marks : List ℕ) → length marks ≡ n → Marked [] marks → marks ≡ replicate n 0
 mark-none n marks e m =
     ext_get_or 0 marks (replicate n 0) (e ∙ sym (length-replicate n 0)) (λ i h.
-    m i h ∙ rw (out_none i) (sym (get_or-replicate n i 0 0 (omega arith))))
+    m i h ∙ (sym (get_or-replicate n i 0 0 (omega arith))))
 
 -- a free place is where the column's rows end, whichever way that is said
 pub free_as : {g : ℕ → ℕ → Bool} {n : ℕ} {up_to other : ℕ → ℕ} {next : List ℕ} → ((c : ℕ) → c < n → later (up_to c) g c ≡ later (other c) g c) →
@@ -63,7 +62,6 @@ free_more {g} {n} {k = k} kn {c} {rest} x next next' f e =
 
 -- after the last column the next row starts from there
 pub free-next : {g : ℕ → ℕ → Bool} {n k : ℕ} {next : List ℕ} → Free g n (given [] k) next → Free g n (λ c. suc k) next
-unfolding any
 free-next f = f
 
 -- where `rest` is still to come
@@ -192,7 +190,7 @@ module _ (s : Setting) (n k : ℕ) (kn : k < n) (small : n < 2 ^ 32) (dinv : Lis
   -- after the last
   pub eliminate-done : (lp li next marks : List ℕ) (lx y : List Float) (d : Float) → Eliminating s n k dinv [] lp li next marks lx y d →
       Rowed s.g n k s.lists (row_of n k (parents n s.g) (take k dinv) s.col_rows s.col_vals s.lists.rows s.lists.vals) lp li next marks lx y d
-  unfolding eliminate_all eliminate_clear_all any
+  unfolding eliminate_all eliminate_clear_all
   eliminate-done lp li next marks lx y d x =
       let H = x.held in
       let same : SameRow s.g n k x.w x.z = along_all (table_up s.g n) kn (take k dinv) x.along in

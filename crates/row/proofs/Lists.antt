@@ -1,11 +1,11 @@
 -- The columns of row k one after the other, where only their rows are listed: L's rows, the free places and the marks. Assumes nothing.
-use Prim.Native.Nat.{ℕ, ◌+◌, ◌^◌, ◌<◌}
+use Prim.Native.Nat.{ℕ, ◌+◌, ◌-◌, ◌^◌, ◌<◌}
 use mathlib.Core.Path.{◌≡◌, refl, sym, ap, ◌∙◌}
 use mathlib.Core.Bool.{Bool, true}
 use mathlib.Core.List.{List, [], ◌∷◌}
 use native.Mathlib.Omega.{arith}
-use lib.ListN.{length, get_or, set, drop, length-set, length-replicate}
-use Rattle.desk.specs.Lists.{any}
+use lib.ListN.{length, get_or, set, take, drop, length-set, length-replicate}
+use Rattle.std.proofs.lemmas.List.{take_rest}
 use Rattle.tree.specs.Strike.{joined, later, parents, pointers_of_l}
 use Rattle.pivot.specs.Pivots.{+0}
 use Rattle.row.specs.Laid.{laid}
@@ -59,7 +59,6 @@ module _ (g : ℕ → ℕ → Bool) (n k : ℕ) (old : List ℕ) (c : ℕ) (rest
 
 -- after the last
 pub list_done : (g : ℕ → ℕ → Bool) (n k : ℕ) (old li next marks : List ℕ) → Listing g n k old [] li next marks → RowListed g n k old li next marks
-unfolding any
 list_done g n k old li next marks x = record {
   listed = record { free = free-next x.listed.free; room = x.listed.room; rows_laid = x.listed.rows_laid };
   unmarked = mark-none n marks x.size x.marked;
@@ -70,14 +69,18 @@ module _ (g : ℕ → ℕ → Bool) (old : List ℕ) (k : ℕ) (rows etree li ne
   pub list_reachable : Reachable g k rows etree marks order
   list_reachable = record { small = b.small; below = b.below; tree = b.tree; column = b.column; clear = b.unmarked }
 
-  module _ (marks' order' : List ℕ) (top : ℕ) (r : Reached k rows etree marks' order' top) (sm : length marks' ≡ length marks) (so : length order' ≡ length order) where
-    pub list_start : Listing g (length order') k old (drop top order') li next marks'
+  module _ (marks' order' : List ℕ) (top : ℕ) (r : Reached k rows etree marks' order' top) (sm : length marks' ≡ length marks) where
+    -- as many marks as unknowns
+    pub list_many : length marks' ≡ length order
+    list_many = sm ∙ ap length b.unmarked ∙ length-replicate (length order) 0
+
+    pub list_start : Listing g (length marks') k old (take (length order' - top) (drop top order')) li next marks'
     list_start =
         let n = length order in
         let par = parents n g in
         let P = table_up g n in
         let first = shape-start g n par P k b.below rows b.column (shape_plain g n (λ c. k) +0) in
-        rw (so, r.ordered, b.tree) (record {
+        rw (take_rest order' top, list_many, r.ordered, b.tree) (record {
           small = b.small;
           below = b.below;
           climb = visited_climb g n par P k b.below rows b.column;
@@ -87,8 +90,8 @@ module _ (g : ℕ → ℕ → Bool) (old : List ℕ) (k : ℕ) (rows etree li ne
             rows_laid = b.listed.rows_laid ∙ ap (λ (cols : List (List ℕ)). laid (pointers_of_l n g) cols old) (shape-lists first);
           };
           marked = rw (← b.tree) r.marked;
-          size = sm ∙ ap length b.unmarked ∙ length-replicate n 0;
+          size = list_many;
         })
 
-    pub list_row_done : (li' next' marks'' : List ℕ) → RowListed g (length order') k old li' next' marks'' → RowListed g (length order) k old li' next' marks''
-    list_row_done li' next' marks'' = rw so (λ h. h)
+    pub list_row_done : (li' next' marks'' : List ℕ) → RowListed g (length marks') k old li' next' marks'' → RowListed g (length order) k old li' next' marks''
+    list_row_done li' next' marks'' = rw list_many (λ h. h)

@@ -26,28 +26,23 @@ in_or_out i xs = go (any (eqb i) xs)
     go false = inr refl
 
 pub out_none : (i : ℕ) → Out i []
-unfolding any
 out_none i = refl
 
 -- the first of a list stands in it, and so does what stands in the rest
 pub in_here : (i : ℕ) (xs : List ℕ) → In i (i ∷ xs)
-unfolding any
 in_here i xs = rw (eq-eqb i i refl)
 
 pub in_later : (i x : ℕ) (xs : List ℕ) → In i xs → In i (x ∷ xs)
-unfolding any
 in_later i x xs h = either (eqb i x) h
 
 -- and nothing else does
 pub in_cases : (i x : ℕ) (xs : List ℕ) → In i (x ∷ xs) → (i ≡ x) ⊎ In i xs
-unfolding any
 in_cases i x xs h = ⊎_elim (λ e. inl (eqb-true i x e)) (λ e. inr e) (cases (eqb i x) (any (eqb i) xs) h)
 
 pub in_one : (i x : ℕ) → In i (x ∷ []) → i ≡ x
 in_one i x h = ⊎_elim (λ e. e) (λ m. absurd (in_out i [] m (out_none i))) (in_cases i x [] h)
 
 pub out_both : (i x : ℕ) (xs : List ℕ) → (i ≡ x → ⊥) → Out i xs → Out i (x ∷ xs)
-unfolding any
 out_both i x xs ne h = rw (ne_eqb i x ne) h
 
 -- what stands in a rest where x does not is no x
@@ -56,7 +51,6 @@ in_not i x xs a b e = in_out i xs a (rw e b)
 
 -- two lists one after the other
 pub any_append : (p : ℕ → Bool) (xs ys : List ℕ) → any p (xs ++ ys) ≡ (any p xs || any p ys)
-unfolding any
 any_append p [] ys = refl
 any_append p (x ∷ xs) ys = go (p x) (any_append p xs ys)
   where
@@ -84,7 +78,6 @@ in_at (x ∷ xs) (suc q) h = in_later (get_or xs q 0) x xs (in_at xs q (omega ar
 
 -- by how often
 pub out-tally : (i : ℕ) (xs : List ℕ) → Out i xs → tally i xs ≡ 0
-unfolding any
 out-tally i [] h = tally-none i
 out-tally i (x ∷ xs) h =
     let b = neither (eqb i x) (any (eqb i) xs) h in

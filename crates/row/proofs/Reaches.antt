@@ -11,7 +11,6 @@ use Rattle.tree.specs.Marks.{On}
 use Rattle.tree.proofs.Liu.{Parents, entry-joined}
 use Rattle.row.specs.Row.{path, visits}
 use Rattle.row.specs.Kernels.{Marked, Marking, up, Climb, done, Climbable, Climbed, Pushed, Reachable, Reached}
-use Rattle.row.proofs.Members.{out_none}
 use Rattle.row.proofs.Paths.{table_up, path_climbs}
 use Rattle.row.proofs.Turns.{visits_more, visits-done}
 
@@ -33,7 +32,7 @@ setting g top order = record { g = g; marked = drop top order }
 
 -- no mark is set
 pub unmarked : (n : ℕ) (marks : List ℕ) → marks ≡ replicate n 0 → Marked [] marks
-unmarked n marks e i h = rw (e, out_none i) (get_or-replicate n i 0 0 (omega (arith, ap length e ∙ length-replicate {A = ℕ} n 0)))
+unmarked n marks e i h = rw e (get_or-replicate n i 0 0 (omega (arith, ap length e ∙ length-replicate {A = ℕ} n 0)))
 
 module _ (g : ℕ → ℕ → Bool) (k : ℕ) (rows etree marks₀ order₀ : List ℕ) (b : Reachable g k rows etree marks₀ order₀) where
   par : Parents g (length order₀) (up etree)

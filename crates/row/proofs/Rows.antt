@@ -1,5 +1,5 @@
 -- A whole row: its entries spread, its columns put in order, and then eliminated. Assumes nothing.
-use Prim.Native.Nat.{ℕ, zero, suc, ◌+◌, ◌-◌, ◌<◌, ◌≤◌}
+use Prim.Native.Nat.{ℕ, zero, suc, ◌<◌, ◌+◌, ◌≤◌}
 use mathlib.Core.Path.{◌≡◌, refl, sym, ap, ◌∙◌}
 use mathlib.Core.Bool.{Bool, cond}
 use mathlib.Core.Logic.{⊎_elim}
@@ -9,16 +9,17 @@ use borrow.Author.Tests.{ne_eqb}
 use lib.Dec.{eqb}
 use lib.IntN.{ℤ, pos}
 use lib.Ieee.{Float, nan}
-use lib.ListN.{length, get_or, take, drop, length-replicate}
+use lib.ListN.{length, get_or, take, length-replicate}
+use Rattle.std.specs.Prelude.{Result}
 use Rattle.csc.specs.Csc.{Csc, column}
-use Rattle.csc.proofs.Steady.{Steady, steady, part_rises, part_ends, part_column, part_length}
+use Rattle.csc.proofs.Steady.{Steady, steady, column_pointers, column_rises, column_ends, column_length}
 use Rattle.tree.specs.Strike.{entry, parents}
 use Rattle.tree.proofs.Entries.{column-entries}
 use Rattle.pivot.specs.declared.Regularisation.{Regularisation}
 use Rattle.pivot.specs.declared.Pivot.{Pivot}
 use Rattle.pivot.specs.Pivots.{pivot_of, +0}
 use Rattle.row.specs.declared.Progress.{Progress}
-use Rattle.row.specs.declared.Step.{Step}
+use Rattle.row.specs.declared.ZeroPivot.{ZeroPivot}
 use Rattle.row.specs.Row.{Row, path, visits, spread, diagonal, eliminate_all, row_of, row_of_matrix}
 use Rattle.row.specs.Kernels.{Reachable, Reached, Lists, Setting, Ordered, Rowed, Rowable}
 use Rattle.row.specs.Steps.{Pivoted, Ready, Stepped}
@@ -97,52 +98,50 @@ module _ (n : ℕ) (A : Csc) (etree : List ℕ) (dinv : List Float) (rows : List
   matrix-vals (suc j) = refl
 
 module _ (s : Lists) (t : Progress) (A : Csc) (etree : List ℕ) (dsigns : List ℤ) (lp li next marks order : List ℕ) (lx d dinv y : List Float)
-    (b : Ready s t A etree dsigns lp li next marks order lx d dinv y) (a e : ℕ) (p : a ≡ get_or A.colptr t.row 0) (q : e ≡ get_or A.colptr (t.row + 1) 0) where
+    (b : Ready s t A etree dsigns lp li next marks order lx d dinv y) where
   S : Steady (length y) (length A.rowval) A.colptr
   S = steady (length y) (length A.rowval) A.colptr b.pointers b.steady
 
-  -- column k is lent as the part from a to e
-  pub from_to : (a ≤ e) × (e ≤ length A.rowval) × (e ≤ length A.nzval)
-  from_to = (part_rises S b.below p q, part_ends S b.below p q, omega (arith, b.values, part_ends S b.below p q))
+  pub in_pointers : t.row + 1 < length A.colptr
+  in_pointers = column_pointers S b.below
 
-  abbrev pub part_rows : List ℕ
-  part_rows = take (e - a) (drop a A.rowval)
+  pub rises : get_or A.colptr t.row 0 ≤ get_or A.colptr (t.row + 1) 0
+  rises = column_rises S b.below
 
-  abbrev pub part_vals : List Float
-  part_vals = take (e - a) (drop a A.nzval)
+  pub in_rows : get_or A.colptr (t.row + 1) 0 ≤ length A.rowval
+  in_rows = column_ends S b.below
 
-  rows_are : part_rows ≡ column A.colptr A.rowval t.row
-  rows_are = part_column S b.below p q A.rowval (omega arith)
+  pub in_values : get_or A.colptr (t.row + 1) 0 ≤ length A.nzval
+  in_values = omega (arith, in_rows, b.values)
 
-  vals_are : part_vals ≡ column A.colptr A.nzval t.row
-  vals_are = part_column S b.below p q A.nzval (omega (arith, b.values))
+  -- the rows and values of column k, as they are lent
+  module _ {rows : List ℕ} {vals : List Float} (rows_are : rows ≡ column A.colptr A.rowval t.row) (vals_are : vals ≡ column A.colptr A.nzval t.row) where
+    pub row_rowable : Rowable (entry A.colptr A.rowval) s t.row rows vals etree lp li next marks order lx dinv y
+    row_rowable = record {
+      small = b.small;
+      below = b.below;
+      column = column-entries (length y) A.colptr A.rowval b.upper t.row b.below rows_are;
+      values = rw (rows_are, vals_are) (column_length S b.below A.rowval (omega arith) ∙ sym (column_length S b.below A.nzval (omega (arith, b.values))));
+      tree = b.tree;
+      held = b.held;
+      reciprocals = omega (arith, b.below, b.reciprocals);
+      room = b.room;
+      unmarked = b.unmarked;
+      cleared = b.cleared;
+    }
 
-  pub row_rowable : Rowable (entry A.colptr A.rowval) s t.row part_rows part_vals etree lp li next marks order lx dinv y
-  row_rowable = record {
-    small = b.small;
-    below = b.below;
-    column = column-entries (length y) A.colptr A.rowval b.upper t.row b.below rows_are;
-    values = part_length S b.below p q A.rowval (omega arith) ∙ sym (part_length S b.below p q A.nzval (omega (arith, b.values)));
-    tree = b.tree;
-    held = b.held;
-    reciprocals = omega (arith, b.below, b.reciprocals);
-    room = b.room;
-    unmarked = b.unmarked;
-    cleared = b.cleared;
-  }
-
-  module _ (li' next' marks' : List ℕ) (lx' d' dinv' y' : List Float) (x f : Float) (reg : Regularisation) (v : Pivot) (r : Step)
-      (w : Rowed (entry A.colptr A.rowval) (length y) t.row s (row_of (length y) t.row etree (take t.row dinv) part_rows part_vals s.rows s.vals) lp li' next' marks' lx' y' x)
-      (ef : f ≡ cond (eqb t.row 0) (get_or A.nzval 0 nan) x) (ev : v ≡ pivot_of reg (get_or dsigns t.row (pos 0)) f) (pv : Pivoted t v d d' dinv dinv' r) where
-    pub row_stepped : Stepped s t (length y) A etree dsigns reg lp li' next' marks' lx' d d' dinv dinv' y' r
-    row_stepped =
-        let k = t.row in
-        let R = rw (rows_are, vals_are) at w in
-        let start : f ≡ (row_of_matrix (length y) A etree k (take k dinv) s.rows s.vals).d =
-        ef ∙ rw R.diagonal (sym (matrix-d (length y) A etree (take k dinv) s.rows s.vals k)) in
-        record {
-          pivoted = rw (← start, ← ev) pv;
-          held = rw (matrix-rows (length y) A etree (take k dinv) s.rows s.vals k, matrix-vals (length y) A etree (take k dinv) s.rows s.vals k) at R.held;
-          unmarked = R.unmarked;
-          cleared = R.cleared;
-        }
+    module _ (li' next' marks' : List ℕ) (lx' d' dinv' y' : List Float) (x f : Float) (reg : Regularisation) (v : Pivot) (r : Result Progress ZeroPivot)
+        (w : Rowed (entry A.colptr A.rowval) (length y) t.row s (row_of (length y) t.row etree (take t.row dinv) rows vals s.rows s.vals) lp li' next' marks' lx' y' x)
+        (ef : f ≡ cond (eqb t.row 0) (get_or A.nzval 0 nan) x) (ev : v ≡ pivot_of reg (get_or dsigns t.row (pos 0)) f) (pv : Pivoted t v d d' dinv dinv' r) where
+      pub row_stepped : Stepped s t (length y) A etree dsigns reg lp li' next' marks' lx' d d' dinv dinv' y' r
+      row_stepped =
+          let k = t.row in
+          let R = rw (rows_are, vals_are) at w in
+          let start : f ≡ (row_of_matrix (length y) A etree k (take k dinv) s.rows s.vals).d =
+          ef ∙ rw R.diagonal (sym (matrix-d (length y) A etree (take k dinv) s.rows s.vals k)) in
+          record {
+            pivoted = rw (← start, ← ev) pv;
+            held = rw (matrix-rows (length y) A etree (take k dinv) s.rows s.vals k, matrix-vals (length y) A etree (take k dinv) s.rows s.vals k) at R.held;
+            unmarked = R.unmarked;
+            cleared = R.cleared;
+          }

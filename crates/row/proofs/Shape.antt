@@ -5,7 +5,7 @@ use mathlib.Core.Bool.{Bool, true, false, cond}
 use mathlib.Core.List.{List, [], ◌∷◌, ◌++◌, map}
 use native.Mathlib.Omega.{arith}
 use native.Mathlib.Decide.{ℕ_discrete, dec_lt, le_ind}
-use borrow.Author.Tests.{ne_eqb}
+use borrow.Author.Tests.{eq-eqb, ne_eqb}
 use lib.Dec.{eqb}
 use lib.Ieee.{Float}
 use lib.ListN.{length, get_or, set, replicate, length-set, length-append, length-replicate, get_or-replicate}
@@ -96,7 +96,6 @@ given_most rest k c n h = go (any (eqb c) rest)
 
 -- a turn changes nothing for the other columns
 pub given_other : (c : ℕ) (rest : List ℕ) (k i : ℕ) → (i ≡ c → ⊥) → given (c ∷ rest) k i ≡ given rest k i
-unfolding any
 given_other c rest k i ne = rw (ne_eqb i c ne)
 
 module _ {g : ℕ → ℕ → Bool} {n : ℕ} {par : ℕ → ℕ} {k : ℕ} (kn : k < n) {c : ℕ} {rest : List ℕ} (x : Climb g par k (c ∷ rest)) where
@@ -105,7 +104,7 @@ module _ {g : ℕ → ℕ → Bool} {n : ℕ} {par : ℕ → ℕ} {k : ℕ} (kn 
 
   -- the next column is given k
   pub given_more : later (given rest k c) g c ≡ later (given (c ∷ rest) k c) g c ++ (k ∷ [])
-  given_more = rw (climb_apart x, in_here c rest) (later-joined g c k below (climb-joined x c (in_here c rest)))
+  given_more = rw (climb_apart x, eq-eqb c c refl) (later-joined g c k below (climb-joined x c (in_here c rest)))
 
   sized_step : {A : Type 0} (cols : List (List A)) (v : A) → Sized g n (given (c ∷ rest) k) cols →
       Sized g n (given rest k) (set cols c (get_or cols c [] ++ (v ∷ [])))
@@ -137,7 +136,6 @@ module _ {g : ℕ → ℕ → Bool} {n : ℕ} {par : ℕ → ℕ} {k : ℕ} (kn 
 
 -- after the last column the next row starts from there
 pub shape-next : {g : ℕ → ℕ → Bool} {n k : ℕ} {rows : List (List ℕ)} {vals : List (List Float)} → Shape g n (given [] k) rows vals → Shape g n (λ c. suc k) rows vals
-unfolding any
 shape-next s = s
 
 -- before the first: a column that row k does not visit lists no k

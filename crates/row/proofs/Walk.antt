@@ -35,12 +35,10 @@ module _ (xs marks : List ℕ) (m : Marked xs marks) (i : ℕ) (h : i < length m
 
 -- one unknown more between two lists
 any_without : (p : ℕ → Bool) (xs ys : List ℕ) (i : ℕ) → p i ≡ false → any p ((xs ++ (i ∷ [])) ++ ys) ≡ any p (xs ++ ys)
-unfolding any
 any_without p [] ys i e = rw e
 any_without p (x ∷ xs) ys i e = rw (any_without p xs ys i e)
 
 any_with : (p : ℕ → Bool) (xs ys : List ℕ) (i : ℕ) → p i ≡ true → any p ((xs ++ (i ∷ [])) ++ ys) ≡ true
-unfolding any
 any_with p [] ys i e = rw e
 any_with p (x ∷ xs) ys i e = either (p x) (any_with p xs ys i e)
 

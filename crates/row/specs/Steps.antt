@@ -1,13 +1,12 @@
 -- What moves from row to row, and what one row leaves. Assumes nothing.
-use Rattle.std.specs.Prelude.{ℕ, suc, ◌+◌, ◌^◌, ◌<◌, ◌≤◌, ◌≡◌, Bool, false, cond, List, ℤ, pos, Float, length, get_or, set, take, replicate}
+use Rattle.std.specs.Prelude.{ℕ, suc, ◌+◌, ◌^◌, ◌<◌, ◌≤◌, ◌≡◌, Bool, false, cond, List, ℤ, pos, Result, Ok, Err, Float, length, get_or, set, take, replicate}
 use Rattle.csc.specs.Csc.{Csc, bad_pointers, not_upper}
 use Rattle.tree.specs.Strike.{entry, parents}
 use Rattle.pivot.specs.declared.Regularisation.{Regularisation}
 use Rattle.pivot.specs.declared.Pivot.{Pivot}
 use Rattle.pivot.specs.Pivots.{pivot_of, is_zero, is_positive, +0}
 use Rattle.row.specs.declared.Progress.{Progress}
-use Rattle.row.specs.declared.Step.{Step}
-use Rattle.row.specs.declared.Step.TheVariants.{Done, ZeroPivot}
+use Rattle.row.specs.declared.ZeroPivot.{ZeroPivot}
 use Rattle.row.specs.Row.{row_of_matrix}
 use Rattle.row.specs.Kernels.{Lists, grown, Held}
 
@@ -17,15 +16,17 @@ plus k b = cond b (k + 1) k
 abbrev pub progress : ℕ → ℕ → ℕ → Progress
 progress row inertia shifts = record { row = row; inertia = inertia; shifts = shifts }
 
--- "Zero refuses; above zero adds one to inertia"; the shift counts. A zero pivot leaves its row, no inertia, and the shifts up to and
--- including it
-unfoldable pub step_of : Pivot → Progress → Step
+abbrev pub zero_pivot : ℕ → ℕ → ZeroPivot
+zero_pivot row shifts = record { row = row; shifts = shifts }
+
+-- "Zero refuses; above zero adds one to inertia"; the shift counts. A zero pivot leaves its row, and the shifts up to and including it
+unfoldable pub step_of : Pivot → Progress → Result Progress ZeroPivot
 step_of p t =
     let shifts = plus t.shifts p.shifted in
-    cond (is_zero p.value) (ZeroPivot (progress t.row 0 shifts)) (Done (progress (t.row + 1) (plus t.inertia (is_positive p.value)) shifts))
+    cond (is_zero p.value) (Err (zero_pivot t.row shifts)) (Ok (progress (t.row + 1) (plus t.inertia (is_positive p.value)) shifts))
 
 -- what the pivot of a row leaves: D has it, and Dinv its reciprocal where it is not zero
-pub record Pivoted (t : Progress) (p : Pivot) (d₀ d dinv₀ dinv : List Float) (r : Step) : Type 0 where
+pub record Pivoted (t : Progress) (p : Pivot) (d₀ d dinv₀ dinv : List Float) (r : Result Progress ZeroPivot) : Type 0 where
   pub answer : r ≡ step_of p t
   pub pivot : d ≡ set d₀ t.row p.value
   pub reciprocal : dinv ≡ cond (is_zero p.value) dinv₀ (set dinv₀ t.row p.reciprocal)
@@ -56,7 +57,7 @@ pub record Ready (s : Lists) (t : Progress) (A : Csc) (etree : List ℕ) (dsigns
 
 -- what it leaves, cell by cell: L's columns have their entries of this row, D and Dinv their pivot, y is all zeros again and no mark is set
 pub record Stepped (s : Lists) (t : Progress) (n : ℕ) (A : Csc) (etree : List ℕ) (dsigns : List ℤ) (reg : Regularisation)
-    (lp li next marks : List ℕ) (lx d₀ d dinv₀ dinv y : List Float) (r : Step) : Type 0 where
+    (lp li next marks : List ℕ) (lx d₀ d dinv₀ dinv y : List Float) (r : Result Progress ZeroPivot) : Type 0 where
   pub pivoted :
       Pivoted t (pivot_of reg (get_or dsigns t.row (pos 0)) (row_of_matrix n A etree t.row (take t.row dinv₀) s.rows s.vals).d) d₀ d dinv₀ dinv r
   pub held :

@@ -5,34 +5,49 @@
 //   next          |   |     |
 //
 //   order   p p . . . . . c c c     a path in the making at the front; at the back, from top on, the columns in the order of their visits
+//
+// These lists come one by one, and not as one value: a row reads a part of one while it writes another, which the borrow checker covers
+// only so. The rows and values of a column come as two: parts of lists that are written beside them make no column by a type of its own.
 #![tactic(auto)]
 
-ghost use Rattle.std.specs.Prelude.{◌≡◌, ℕ, ◌+◌, ◌^◌, ◌<◌, ◌≤◌, Bool, cond, List, eqb, length, get_or, take, drop};
+ghost use Rattle.std.specs.Prelude.{◌≡◌, ℕ, ◌+◌, ◌^◌, ◌<◌, ◌≤◌, Bool, cond, List, eqb, length, get_or, take};
 ghost use Rattle.std.specs.Float.{nan};
-ghost use Rattle.csc.specs.Csc.{matrix};
+ghost use Rattle.csc.specs.Csc.{lent};
 ghost use Rattle.tree.specs.Strike.{parents};
 ghost use Rattle.pivot.specs.Pivots.{+0};
 ghost use Rattle.row.specs.Row.{spread, diagonal, scattered, row_of};
 ghost use Rattle.row.specs.Kernels.{Marking, Climbable, Climbed, Pushed, Reachable, Reached, Eliminable, Eliminated, Lists, Setting, Ordered, Rowed, Rowable, Listing, Listable, RowListed};
 ghost use Rattle.row.specs.Steps.{plus, Counted, Pivoted, Ready, Stepped};
 
+use csc::CscMatrix;
 use desk::wide;
 use pivot::{Pivot, Regularisation, is_positive, is_zero, regularised};
+use std::error::Error;
+use std::fmt;
 
 // What moves from row to row: the next row, the pivots above zero and the shifts so far.
-#[derive(Clone, Copy)]
+#[derive(Clone, Copy, Debug, PartialEq, Eq)]
 pub struct Progress {
     pub row: usize,
     pub inertia: usize,
     pub shifts: usize,
 }
 
-// What a row comes to.
-#[derive(Clone, Copy)]
-pub enum Step {
-    Done(Progress),
-    ZeroPivot(Progress),
+// A pivot of zero: its row, and the shifts up to and including it.
+#[derive(Clone, Copy, Debug, PartialEq, Eq)]
+pub struct ZeroPivot {
+    pub row: usize,
+    pub shifts: usize,
 }
+
+impl fmt::Display for ZeroPivot {
+    fn fmt<W: fmt::Write>(&self, f: &mut fmt::Formatter<W>) -> fmt::Result {
+        let row = self.row;
+        write!(f, "the pivot of row {row} is zero")
+    }
+}
+
+impl Error for ZeroPivot {}
 
 // x[r] = x[r] - l * v for each listed row r and its value l, in order.
 pub fn scatter(rows: &[u32], vals: &[f64], v: f64, x: &mut [f64])
@@ -40,11 +55,8 @@ pub fn scatter(rows: &[u32], vals: &[f64], v: f64, x: &mut [f64])
     requires by_index { (k : ℕ) → k < length rows.now → get_or rows.now k 0 < length x.old }
     ensures { x.new ≡ scattered rows.now vals.now v x.old }
 {
-    let mut j: usize = 0;
-    while j < rows.len() {
-        let r = wide(rows[j]);
-        x[r] = x[r] - vals[j] * v;
-        j += 1;
+    for (row, l) in rows.iter().zip(vals) {
+        x[wide(*row)] -= *l * v;
     }
 }
 
@@ -55,15 +67,13 @@ fn spread(k: usize, rows: &[u32], vals: &[f64], y: &mut [f64]) -> f64
     ensures { (y.new ≡ spread k rows.now vals.now y.old) × (result ≡ diagonal k rows.now vals.now +0) }
 {
     let mut d: f64 = 0.0;
-    let mut j: usize = 0;
-    while j < rows.len() {
-        let r = wide(rows[j]);
+    for (row, value) in rows.iter().zip(vals) {
+        let r = wide(*row);
         if r == k {
-            d = vals[j];
+            d = *value;
         } else {
-            y[r] = vals[j];
+            y[r] = *value;
         }
-        j += 1;
     }
     d
 }
@@ -74,12 +84,10 @@ pub fn diagonal(k: usize, rows: &[u32], vals: &[f64]) -> f64
     ensures { result ≡ diagonal k rows.now vals.now +0 }
 {
     let mut found: f64 = 0.0;
-    let mut j: usize = 0;
-    while j < rows.len() {
-        if wide(rows[j]) == k {
-            found = vals[j];
+    for (row, value) in rows.iter().zip(vals) {
+        if wide(*row) == k {
+            found = *value;
         }
-        j += 1;
     }
     found
 }
@@ -109,13 +117,8 @@ fn push(len: usize, top: usize, order: &mut [u32]) -> usize
     requires { (len ≤ top) × (top ≤ length order.old) }
     ensures { Pushed len top order.old order.new result }
 {
-    let mut left = len;
-    let mut to = top;
-    while 0 < left {
-        left -= 1;
-        to -= 1;
-        order[to] = order[left];
-    }
+    let to = top - len;
+    order.copy_within(..len, to);
     to
 }
 
@@ -125,11 +128,9 @@ fn reach(k: usize, rows: &[u32], etree: &[u32], marks: &mut [u8], order: &mut [u
     ensures { Reached k rows.now etree.now marks.new order.new result }
 {
     let mut top = order.len();
-    let mut j: usize = 0;
-    while j < rows.len() {
-        let len = climb(wide(rows[j]), k, etree, &mut *marks, &mut *order);
+    for row in rows {
+        let len = climb(wide(*row), k, etree, &mut *marks, &mut *order);
         top = push(len, top, &mut *order);
-        j += 1;
     }
     top
 }
@@ -183,12 +184,10 @@ fn eliminate_all(
     ensures { (s : Setting) → Ordered s k top d order.now lp.now li.old next.old marks.old lx.old dinv.now y.old → Rowed s.g (length y.old) k s.lists (row_of (length y.old) k (parents (length y.old) s.g) (take k dinv.now) s.col_rows s.col_vals s.lists.rows s.lists.vals) lp.now li.new next.new marks.new lx.new y.new result }
 {
     let mut dk = d;
-    let mut q = top;
-    while q < order.len() {
-        let c = wide(order[q]);
+    for column in &order[top..] {
         dk = eliminate(
             k,
-            c,
+            wide(*column),
             dk,
             lp,
             &mut *li,
@@ -198,7 +197,6 @@ fn eliminate_all(
             &mut *marks,
             &mut *y,
         );
-        q += 1;
     }
     dk
 }
@@ -226,19 +224,17 @@ fn row_of(
     eliminate_all(k, top, d, &order[..], lp, li, lx, dinv, next, marks, y)
 }
 
-// The columns of row k, from top on: each lists k at its next free place, which moves on, and its mark is cleared.
-fn list_all(k: usize, top: usize, order: &[u32], li: &mut [u32], next: &mut [u32], marks: &mut [u8])
-    requires { (g : ℕ → ℕ → Bool) × ((old : List ℕ) × Listing g (length order.now) k old (drop top order.now) li.old next.old marks.old) }
-    ensures { (g : ℕ → ℕ → Bool) (old : List ℕ) → Listing g (length order.now) k old (drop top order.now) li.old next.old marks.old → RowListed g (length order.now) k old li.new next.new marks.new }
+// The columns of row k, in their order: each lists k at its next free place, which moves on, and its mark is cleared.
+fn list_all(k: usize, columns: &[u32], li: &mut [u32], next: &mut [u32], marks: &mut [u8])
+    requires { (g : ℕ → ℕ → Bool) × ((old : List ℕ) × Listing g (length marks.old) k old columns.now li.old next.old marks.old) }
+    ensures { (g : ℕ → ℕ → Bool) (old : List ℕ) → Listing g (length marks.old) k old columns.now li.old next.old marks.old → RowListed g (length marks.old) k old li.new next.new marks.new }
 {
-    let mut q = top;
-    while q < order.len() {
-        let col = wide(order[q]);
+    for column in columns {
+        let col = wide(*column);
         let place = next[col];
         li[wide(place)] = k as u32;
         next[col] = place + 1;
         marks[col] = 0;
-        q += 1;
     }
 }
 
@@ -256,7 +252,7 @@ pub fn list_row(
     ensures { (g : ℕ → ℕ → Bool) (old : List ℕ) → Listable g old k rows.now etree.now li.old next.old marks.old order.old → RowListed g (length order.old) k old li.new next.new marks.new }
 {
     let top = reach(k, rows, etree, &mut *marks, &mut *order);
-    list_all(k, top, &order[..], li, next, marks);
+    list_all(k, &order[top..], li, next, marks);
 }
 
 // Pivot 0 starts from the first stored value, any other from d.
@@ -275,11 +271,16 @@ fn plus(k: usize, b: bool) -> usize
     requires { k + 1 < 2 ^ 64 }
     ensures { result ≡ plus k b }
 {
-    if b { k + 1 } else { k }
+    k + usize::from(b)
 }
 
 // Writes the pivot of the next row to D, and where it is not zero its reciprocal to Dinv.
-fn advance(progress: Progress, pivot: Pivot, d: &mut [f64], dinv: &mut [f64]) -> Step
+fn advance(
+    progress: Progress,
+    pivot: Pivot,
+    d: &mut [f64],
+    dinv: &mut [f64],
+) -> Result<Progress, ZeroPivot>
     requires { Counted progress × (progress.row < length d.old) × (progress.row < length dinv.old) }
     ensures { Pivoted progress pivot d.old d.new dinv.old dinv.new result }
 {
@@ -288,15 +289,11 @@ fn advance(progress: Progress, pivot: Pivot, d: &mut [f64], dinv: &mut [f64]) ->
     let shifts = plus(progress.shifts, pivot.shifted);
     d[k] = value;
     if is_zero(value) {
-        return Step::ZeroPivot(Progress {
-            row: k,
-            inertia: 0,
-            shifts,
-        });
+        return Err(ZeroPivot { row: k, shifts });
     }
     dinv[k] = pivot.reciprocal;
     let inertia = plus(progress.inertia, is_positive(value));
-    Step::Done(Progress {
+    Ok(Progress {
         row: k + 1,
         inertia,
         shifts,
@@ -306,9 +303,7 @@ fn advance(progress: Progress, pivot: Pivot, d: &mut [f64], dinv: &mut [f64]) ->
 // The next row of the factor. y is all zeros and no mark is set before it and after it; next has each column's first free place of L.
 pub fn row(
     progress: Progress,
-    colptr: &[u32],
-    rowval: &[u32],
-    nzval: &[f64],
+    a: &CscMatrix<'_>,
     etree: &[u32],
     dsigns: &[i8],
     regularisation: Regularisation,
@@ -321,17 +316,16 @@ pub fn row(
     marks: &mut [u8],
     order: &mut [u32],
     y: &mut [f64],
-) -> Step
-    requires { (s : Lists) × Ready s progress (matrix colptr.now rowval.now nzval.now) etree.now dsigns.now lp.now li.old next.old marks.old order.old lx.old d.old dinv.old y.old }
-    ensures { (s : Lists) → Ready s progress (matrix colptr.now rowval.now nzval.now) etree.now dsigns.now lp.now li.old next.old marks.old order.old lx.old d.old dinv.old y.old → Stepped s progress (length y.old) (matrix colptr.now rowval.now nzval.now) etree.now dsigns.now regularisation lp.now li.new next.new marks.new lx.new d.old d.new dinv.old dinv.new y.new result }
+) -> Result<Progress, ZeroPivot>
+    requires { (s : Lists) × Ready s progress (lent a.now) etree.now dsigns.now lp.now li.old next.old marks.old order.old lx.old d.old dinv.old y.old }
+    ensures { (s : Lists) → Ready s progress (lent a.now) etree.now dsigns.now lp.now li.old next.old marks.old order.old lx.old d.old dinv.old y.old → Stepped s progress (length y.old) (lent a.now) etree.now dsigns.now regularisation lp.now li.new next.new marks.new lx.new d.old d.new dinv.old dinv.new y.new result }
 {
     let k = progress.row;
-    let a = wide(colptr[k]);
-    let e = wide(colptr[k + 1]);
+    let (rows, values) = a.entries(k);
     let start = row_of(
         k,
-        &rowval[a..e],
-        &nzval[a..e],
+        rows,
+        values,
         etree,
         lp,
         li,
@@ -342,6 +336,6 @@ pub fn row(
         order,
         y,
     );
-    let pivot = regularised(regularisation, dsigns[k], first_or(k, nzval, start));
+    let pivot = regularised(regularisation, dsigns[k], first_or(k, a.nzval, start));
     advance(progress, pivot, d, dinv)
 }

@@ -2,24 +2,23 @@
 use Prim.Native.Nat.{ℕ, suc, ◌+◌, ◌-◌, ◌<◌, ◌≤◌}
 use mathlib.Core.Path.{◌≡◌, ap, ◌∙◌}
 use mathlib.Core.List.{List, [], ◌∷◌, reverse, reverse-append}
-use native.Mathlib.Nat.{zero-add}
 use native.Mathlib.Numerals.{add-one}
 use native.Mathlib.Omega.{arith}
 use lib.Ieee.{Float, nan}
 use lib.ListN.{length, get_or, set}
 use Rattle.desk.specs.Lists.{from, upto, over}
+use Rattle.desk.proofs.Upto.{upto_more}
 use Rattle.desk.proofs.Over.{over-whole}
 use Rattle.csc.specs.Csc.{column}
 use Rattle.order.specs.Order.{permuted, ipermuted}
 use Rattle.order.proofs.Orderings.{length-permuted, length-ipermuted}
 use Rattle.pivot.specs.Pivots.{◌⊖◌, ◌⊗◌, +0}
 use Rattle.row.specs.Row.{scattered}
-use Rattle.tree.proofs.Later.{from_more}
 use Rattle.solve.specs.Solve.{lsolved, summed, dltsolved, solved}
 
 -- the last of the numbers below i + 1 comes first
 pub falling : (i : ℕ) → reverse (upto (suc i)) ≡ i ∷ reverse (upto i)
-falling i = ap reverse (from_more 0 i) ∙ reverse-append (upto i) ((0 + i) ∷ []) ∙ rw zero-add
+falling i = ap reverse (upto_more i) ∙ reverse-append (upto i) (i ∷ [])
 
 module _ (lp li : List ℕ) (lx : List Float) (i : ℕ) (x : List Float) where
   module _ (n : ℕ) where

@@ -12,7 +12,7 @@ use borrow.Author.Tests.{ltb-false, eqb-true, eq-eqb, ne_eqb}
 use lib.Dec.{ltb, eqb}
 use lib.ListN.{length, get_or}
 use Rattle.desk.specs.Lists.{any}
-use Rattle.desk.proofs.Any.{any_at, any_where, none-at, none_from}
+use Rattle.desk.proofs.Any.{any_at, any_where, none-at, none_upto}
 use Rattle.csc.specs.Csc.{column, not_upper}
 use Rattle.tree.specs.Strike.{entry}
 use Rattle.tree.specs.Marks.{Column}
@@ -23,7 +23,7 @@ module _ (n : ℕ) (ptr rows : List ℕ) (upper : not_upper n ptr rows ≡ false
   unfolding not_upper
   row_at_most q l =
       ltb-false j (get_or (column ptr rows j) q 0)
-      (none-at (ltb j) 0 (column ptr rows j) (none_from (λ c. any (ltb c) (column ptr rows c)) 0 n j upper (omega arith) (omega arith)) q l)
+      (none-at (ltb j) 0 (column ptr rows j) (none_upto (λ c. any (ltb c) (column ptr rows c)) n j upper (omega arith)) q l)
 
   entry_above : (i : ℕ) → i < j → entry ptr rows i j ≡ any (eqb i) (column ptr rows j)
   unfolding entry

@@ -8,7 +8,7 @@ use native.Mathlib.Decide.{ℕ_discrete, dec_lt}
 use borrow.Author.Tests.{lt-ltb}
 use lib.ListN.{length, get_or}
 use Rattle.desk.specs.Lists.{from, keep, tally}
-use Rattle.desk.proofs.Upto.{get_or-upto, length-upto}
+use Rattle.desk.proofs.Upto.{from_more, get_or-upto, length-upto}
 use Rattle.desk.proofs.Tally.{tally-none, tally-here, tally-past}
 use Rattle.csc.specs.Csc.{rises}
 use Rattle.tree.specs.Strike.{joined, later, none, least_or, parents, counts}
@@ -17,27 +17,19 @@ use Rattle.tree.proofs.Liu.{Parents}
 
 -- ---- the numbers in a row that pass a test
 
-pub from_more : (i k : ℕ) → from i (suc k) ≡ from i k ++ ((i + k) ∷ [])
-unfolding from
-from_more i zero = ap (λ (x : ℕ). x ∷ []) (omega arith)
-from_more i (suc k) = ap (λ (l : List ℕ). i ∷ l) (from_more (suc i) k ∙ ap (λ (x : ℕ). from (suc i) k ++ (x ∷ [])) (omega arith))
-
 module _ (p : ℕ → Bool) where
   kept : (b : Bool) (x : ℕ) (xs ys : List ℕ) → cond b (x ∷ (xs ++ ys)) (xs ++ ys) ≡ cond b (x ∷ xs) xs ++ ys
   kept true x xs ys = refl
   kept false x xs ys = refl
 
   pub keep_append : (xs ys : List ℕ) → keep p (xs ++ ys) ≡ keep p xs ++ keep p ys
-  unfolding keep
   keep_append [] ys = refl
   keep_append (x ∷ xs) ys = rw (keep_append xs ys) (kept (p x) x (keep p xs) (keep p ys))
 
   pub keep_one : (x : ℕ) → p x ≡ true → keep p (x ∷ []) ≡ x ∷ []
-  unfolding keep
   keep_one x h = rw h
 
   pub keep_no : (x : ℕ) → p x ≡ false → keep p (x ∷ []) ≡ []
-  unfolding keep
   keep_no x h = rw h
 
   at_most : (b : Bool) (x : ℕ) (xs : List ℕ) (k : ℕ) → length xs ≤ k → length (cond b (x ∷ xs) xs) ≤ suc k
@@ -45,7 +37,7 @@ module _ (p : ℕ → Bool) where
   at_most false x xs k h = omega arith
 
   pub length-keep : (i k : ℕ) → length (keep p (from i k)) ≤ k
-  unfolding keep from
+  unfolding from
   length-keep i zero = omega arith
   length-keep i (suc k) = at_most (p i) i (keep p (from (suc i) k)) k (length-keep (suc i) k)
 
@@ -63,7 +55,7 @@ module _ (p : ℕ → Bool) where
       record { from_on = omega arith; least = x.least; passes = x.passes }
 
   pub least_kept : (d i k v : ℕ) → i ≤ v → v < i + k → p v ≡ true → Least i v (least_or d (keep p (from i k)))
-  unfolding keep from
+  unfolding from
   least_kept d i zero v l u h = absurd (omega arith)
   least_kept d i (suc k) v l u h =
       least_step d i v (p i) refl (keep p (from (suc i) k)) l (λ lt. least_kept d (suc i) k v lt (omega arith) h) h
@@ -74,12 +66,12 @@ module _ (p : ℕ → Bool) where
   tally_step v i false xs ne = refl
 
   pub tally_early : (i k v : ℕ) → v < i → tally v (keep p (from i k)) ≡ 0
-  unfolding keep from
+  unfolding from
   tally_early i zero v l = tally-none v
   tally_early i (suc k) v l = tally_step v i (p i) (keep p (from (suc i) k)) (λ e. omega arith) ∙ tally_early (suc i) k v (omega arith)
 
   pub tally-kept : (i k v : ℕ) → i ≤ v → v < i + k → p v ≡ true → tally v (keep p (from i k)) ≡ 1
-  unfolding keep from
+  unfolding from
   tally-kept i zero v l u h = absurd (omega arith)
   tally-kept i (suc k) v l u h =
       elim (ℕ_discrete i v) [
@@ -88,7 +80,7 @@ module _ (p : ℕ → Bool) where
       ]
 
   pub tally_else : (i k v : ℕ) → p v ≡ false → tally v (keep p (from i k)) ≡ 0
-  unfolding keep from
+  unfolding from
   tally_else i zero v h = tally-none v
   tally_else i (suc k) v h =
       elim (ℕ_discrete i v) [
@@ -97,7 +89,7 @@ module _ (p : ℕ → Bool) where
       ]
 
   pub tally_past_end : (i k v : ℕ) → i + k ≤ v → tally v (keep p (from i k)) ≡ 0
-  unfolding keep from
+  unfolding from
   tally_past_end i zero v u = tally-none v
   tally_past_end i (suc k) v u = tally_step v i (p i) (keep p (from (suc i) k)) (λ e. omega arith) ∙ tally_past_end (suc i) k v (omega arith)
 
@@ -115,7 +107,7 @@ module _ (p : ℕ → Bool) where
   rises_step i true (y ∷ ys) h r = rw (lt-ltb i y (h y ys refl)) r
 
   pub keep-rises : (i k : ℕ) → rises (keep p (from i k)) ≡ true
-  unfolding keep from rises
+  unfolding from rises
   keep-rises i zero = refl
   keep-rises i (suc k) = rises_step i (p i) (keep p (from (suc i) k)) (first-from (suc i) k) (keep-rises (suc i) k)
 
@@ -124,7 +116,7 @@ module _ (p : ℕ → Bool) where
 module _ (g : ℕ → ℕ → Bool) where
   -- nothing is later than i below i + 1
   pub later-none : (n i : ℕ) → n ≤ suc i → later n g i ≡ []
-  unfolding later keep from
+  unfolding later from
   later-none n i h = let e : n - suc i ≡ 0 = omega arith in rw e
 
   -- with one more row, j is one of them where it is joined to i as i goes

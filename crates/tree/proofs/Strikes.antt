@@ -10,7 +10,7 @@ use lib.ListN.{length, get_or}
 use Rattle.desk.specs.Desk.{max_n}
 use Rattle.desk.specs.Lists.{upto, tally, total}
 use Rattle.desk.proofs.Tally.{tally-here}
-use Rattle.desk.proofs.Upto.{length_from}
+use Rattle.desk.proofs.Upto.{length_upto}
 use Rattle.csc.specs.Csc.{rises}
 use Rattle.tree.specs.Strike.{joined, later, none, least_or, parents, counts}
 use Rattle.tree.proofs.Later.{length-later, listed_once, listed-later, listed_below, listed-joined, later-rises, least-later, get_or-counts, get_or-parents}
@@ -67,7 +67,7 @@ module _ (n : ℕ) (g : ℕ → ℕ → Bool) where
 
   pub total-counts : total (counts n g) ≤ n * n
   unfolding counts
-  total-counts = rw (length_from 0 n) at (total_at_most (upto n))
+  total-counts = rw (length_upto n) at (total_at_most (upto n))
 
   -- "n is 1 to 2,048"
   pub counts_fit : n ≤ max_n → total (counts n g) < 2 ^ 32

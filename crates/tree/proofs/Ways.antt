@@ -1,13 +1,13 @@
 -- A way up by parents: it starts at an entry of row j, marks as it goes, and is done at a marked unknown. Assumes nothing.
 use Prim.Native.Nat.{ℕ, ◌-◌, ◌<◌}
-use mathlib.Core.Path.{◌≡◌, refl}
+use mathlib.Core.Path.{◌≡◌}
 use mathlib.Core.Bool.{true}
 use mathlib.Core.Logic.{◌⊎◌, inl, inr, ⊎_elim}
 use mathlib.Core.List.{List}
 use native.Mathlib.Omega.{arith}
-use lib.ListN.{length, get_or}
+use lib.ListN.{get_or}
 use Rattle.tree.specs.Strike.{joined}
-use Rattle.tree.specs.Marks.{Setting, On, Climbing, Visitable, Visited, Start, Climbed}
+use Rattle.tree.specs.Marks.{Setting, On, Climbing, Visitable, Visited, Climbed}
 use Rattle.tree.proofs.Marking.{marks, still_marked, visitable, visit_rises, visit_on, visit_more}
 
 -- the way up from start stands at `at`
@@ -28,13 +28,7 @@ moved s j at at' w l e c m = record {
   fresh = c.fresh;
 }
 
-pub way_none : (s : Setting) (start j : ℕ) (w l e : List ℕ) → Start s start j w l e → Way s start j start w w l e
-way_none s start j w l e b = record { row = moved s j j start w l e b.row b.row.here; on = b.on; still = λ i h. h; reached = inl refl }
-
 module _ (s : Setting) (start j i : ℕ) (w₀ w l e : List ℕ) (y : Way s start j i w₀ w l e) where
-  pub way_inside : i < length w
-  way_inside = ⊎_elim (λ q. omega (arith, y.row.below, y.row.tables.room_work.enough)) (λ (b, _). omega (arith, y.row.below, y.row.tables.room_work.enough)) y.on
-
   -- at a marked unknown the way is done
   pub way_done : get_or w i 0 ≡ j → Climbed s start j w₀ w l e
   way_done m = record {

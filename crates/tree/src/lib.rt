@@ -1,4 +1,5 @@
 // The elimination tree: parents and column counts, as striking the unknowns out gives them.
+// work, lnz and etree come one by one: three words at a call, of which a type of their own would say no more.
 #![tactic(auto)]
 
 ghost use Rattle.std.specs.Prelude.{◌≡◌, ◌+◌, ◌<◌, ◌^◌, length};
@@ -6,10 +7,10 @@ ghost use Rattle.desk.specs.Lists.{total};
 ghost use Rattle.tree.specs.Tree.{Upper, Treed};
 ghost use Rattle.tree.specs.Marks.{Setting, Visitable, Visited, Start, Climbed, Next, Struck};
 
-use csc::column;
+use csc::CscMatrix;
 use desk::{fill, wide};
 
-// No parent; as a mark, no row yet.
+// No parent; as a mark, no row yet. A number, since the tables are the caller's, and C's.
 const NONE: u32 = 4294967295;
 
 // Marks i, gives its column row j, and answers its parent, which is j where there was none. Where L is full the parent is the next
@@ -50,38 +51,21 @@ fn strike_column(rows: &[u32], j: usize, work: &mut [u32], lnz: &mut [u32], etre
 {
     let mark = j as u32;
     work[j] = mark;
-    let mut k: usize = 0;
-    while k < rows.len() {
-        climb(wide(rows[k]), mark, &mut *work, &mut *lnz, &mut *etree);
-        k += 1;
+    for row in rows {
+        climb(wide(*row), mark, &mut *work, &mut *lnz, &mut *etree);
     }
 }
 
-// Writes the parent of each unknown to the front of etree, and how many rows its column of L lists to the front of lnz. work is scratch.
-pub fn etree(
-    n: usize,
-    colptr: &[u32],
-    rowval: &[u32],
-    work: &mut [u32],
-    lnz: &mut [u32],
-    etree: &mut [u32],
-)
-    requires { Upper n colptr.now rowval.now work.old lnz.old etree.old }
-    ensures { Treed n colptr.now rowval.now lnz.old lnz.new etree.old etree.new }
+// Writes the parent of each unknown of a to the front of etree, and how many rows its column of L lists to the front of lnz. work is scratch.
+pub fn etree(n: usize, a: &CscMatrix<'_>, work: &mut [u32], lnz: &mut [u32], etree: &mut [u32])
+    requires { Upper n a.now.colptr.now a.now.rowval.now work.old lnz.old etree.old }
+    ensures { Treed n a.now.colptr.now a.now.rowval.now lnz.old lnz.new etree.old etree.new }
 {
     fill(&mut *work, n, NONE);
     fill(&mut *lnz, n, 0);
     fill(&mut *etree, n, NONE);
-    let mut j: usize = 0;
-    while j < n {
-        strike_column(
-            column(colptr, rowval, j),
-            j,
-            &mut *work,
-            &mut *lnz,
-            &mut *etree,
-        );
-        j += 1;
+    for j in 0..n {
+        strike_column(a.rows(j), j, &mut *work, &mut *lnz, &mut *etree);
     }
 }
 
@@ -90,11 +74,5 @@ pub fn sum(lnz: &[u32]) -> usize
     requires { length lnz.now < 2 ^ 32 }
     ensures { result ≡ total lnz.now }
 {
-    let mut s: usize = 0;
-    let mut i: usize = 0;
-    while i < lnz.len() {
-        s += wide(lnz[i]);
-        i += 1;
-    }
-    s
+    lnz.iter().map(|count| wide(*count)).sum()
 }

@@ -5,23 +5,11 @@ use Prim.Native.Nat.{◌≤◌}
 use lib.ListN.{length}
 use native.Mathlib.Omega.{arith}
 use lib.Seq.{length-take-le}
-use Rattle.analysis.proofs.Tables.{reorderable, signs_fit, upper, computed}
+use Rattle.analysis.proofs.Analysed.{reorderable, signs_fit, upper, computed}
 use Rattle.analysis.proofs.compute.Goals as goal
 
 pub permute_symmetric-requires : goal.permute_symmetric-requires
 permute_symmetric-requires c = reorderable _ _ _ _ _ _ _ c.requires
-
-pub slice_bounds-etree-end : goal.slice_bounds-etree-end
-slice_bounds-etree-end c = omega (arith, c.permute_symmetric.auto.pc, c.requires.room_pointers)
-
-pub slice_bounds-etree-end-2 : goal.slice_bounds-etree-end-2
-slice_bounds-etree-end-2 c = sym (length-take-le _ _ ((omega (arith, c.permute_symmetric.auto.pc, c.requires.room_pointers))))
-
-pub slice_bounds-etree-end-3 : goal.slice_bounds-etree-end-3
-slice_bounds-etree-end-3 c = omega (arith, c.permute_symmetric.auto.pr, c.requires.room_rows)
-
-pub slice_bounds-etree-end-4 : goal.slice_bounds-etree-end-4
-slice_bounds-etree-end-4 c = sym (length-take-le _ _ ((omega (arith, c.permute_symmetric.auto.pr, c.requires.room_rows))))
 
 pub etree-requires : goal.etree-requires
 etree-requires c = upper _ _ _ _ _ _ _ c.requires _ _ c.permute_symmetric.ensures

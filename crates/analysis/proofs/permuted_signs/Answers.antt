@@ -1,10 +1,11 @@
 -- `analysis::permuted_signs` meets its contract: all +1 where no signs came, and the signs through the ordering where they did.
 -- Assumes nothing.
 use Prim.Native.Nat.{ℕ}
-use mathlib.Core.Path.{◌≡◌, refl, ap, ◌∙◌}
+use mathlib.Core.Path.{◌≡◌, refl, sym, ap, ◌∙◌}
 use mathlib.Core.Logic.{⊎_elim}
 use mathlib.Core.List.{List, [], ◌∷◌}
 use native.Mathlib.Omega.{arith}
+use borrow.Author.Tests.{eqb-true, eqb-false}
 use lib.IntN.{ℤ, pos}
 use lib.ListN.{length, replicate}
 use Rattle.desk.specs.Lists.{over}
@@ -20,23 +21,23 @@ some : (n : ℕ) (perm : List ℕ) (signs : List ℤ) → (length signs ≡ 0 �
 some n perm [] e = absurd (e refl)
 some n perm (s ∷ signs) e = refl
 
-pub permute_signs-requires : goal.permute_signs-requires
-permute_signs-requires c =
+pub permute-requires : goal.permute-requires
+permute-requires c =
     let f = c.requires in
     record {
       ordering = f.ordering;
-      reads = ⊎_elim (λ e. absurd (c.if-signs-eq0.false e)) (λ e. omega arith) f.signed;
+      reads = ⊎_elim (λ e. absurd (eqb-false _ _ (sym c.is_empty.ensures ∙ c.if-is_empty.false) e)) (λ e. omega arith) f.signed;
       writes = f.room;
     }
 
-pub returns-then-signs-eq0 : goal.returns-then-signs-eq0
-returns-then-signs-eq0 c =
+pub returns-then-is_empty : goal.returns-then-is_empty
+returns-then-is_empty c =
     let a = c.args in
     let p = a.perm.now in
-    c.plus_signs.ensures ∙ ap (λ (l : List ℤ). over l a.dsigns.now) (none (length p) p a.signs.now c.if-signs-eq0.true)
+    c.fill.ensures ∙ ap (λ (l : List ℤ). over l a.dsigns.now) (none (length p) p a.signs.now (eqb-true _ _ (sym c.is_empty.ensures ∙ c.if-is_empty.true)))
 
-pub returns-else-signs-eq0 : goal.returns-else-signs-eq0
-returns-else-signs-eq0 c =
+pub returns-else-is_empty : goal.returns-else-is_empty
+returns-else-is_empty c =
     let a = c.args in
     let p = a.perm.now in
-    c.permute_signs.ensures ∙ ap (λ (l : List ℤ). over l a.dsigns.now) (some (length p) p a.signs.now c.if-signs-eq0.false)
+    c.permute.ensures (pos 0) ∙ ap (λ (l : List ℤ). over l a.dsigns.now) (some (length p) p a.signs.now (eqb-false _ _ (sym c.is_empty.ensures ∙ c.if-is_empty.false)))

@@ -3,11 +3,10 @@ use mathlib.Core.Path.{◌≡◌, refl, sym, ap, ◌∙◌}
 use mathlib.Core.List.{List, [], ◌∷◌, ◌++◌}
 use native.Mathlib.Omega.{arith}
 use native.Mathlib.Numerals.{add-one}
-use borrow.Author.Rules.{rules}
-use lib.ListN.{length, take, get_or, set, length-set}
-use lib.Seq.{get_or-take, length-take-le, drop-set-lt}
+use lib.ListN.{length, get_or, set, length-set}
+use lib.Seq.{length-take-le, drop-set-lt}
 use Rattle.desk.specs.Lists.{sums, over}
-use Rattle.desk.proofs.Over.{front, front_more, front_length, front_all}
+use Rattle.desk.proofs.Over.{front, front_more, front_all}
 use Rattle.desk.proofs.Sums.{length-sums, sums_first, sums_next}
 use Rattle.csc.proofs.accumulate.Goals as goal
 
@@ -17,50 +16,37 @@ begun xs [] h = absurd (omega arith)
 begun [] (y ∷ colptr) h = refl
 begun (x ∷ xs) (y ∷ colptr) h = refl
 
-next-sum : (counts : List ℕ) (n c acc : ℕ) → n ≤ length counts → c < n → acc ≡ get_or (sums 0 (take n counts)) c 0 → acc + get_or counts c 0 ≡ get_or (sums 0 (take n counts)) (c + 1) 0
-next-sum counts n c acc hn h e =
-    rw (add-one c)
-    (omega (arith, sums_next 0 (take n counts) c (omega (arith, length-take-le n counts hn)), get_or-take n counts c 0 h))
+module _ (xs : List ℕ) (c : ℕ) where
+  next-sum : (acc : ℕ) → c < length xs → acc ≡ get_or (sums 0 xs) c 0 → acc + get_or xs c 0 ≡ get_or (sums 0 xs) (c + 1) 0
+  next-sum acc h e = rw (add-one c) (omega (arith, sums_next 0 xs c h))
 
-module _ (counts colptr₀ colptr : List ℕ) (n c : ℕ) (hn : n ≤ length counts) (hp : n + 1 ≤ length colptr₀) where
-  long : length (sums 0 (take n counts)) ≡ n + 1
-  long = omega (arith, length-sums 0 (take n counts), length-take-le n counts hn)
+  module _ (colptr₀ colptr : List ℕ) (room : length xs + 1 ≤ length colptr₀) (e : colptr ≡ front (sums 0 xs) (set colptr₀ 0 0) (c + 1)) where
+    more : (acc : ℕ) → c < length xs → acc ≡ get_or (sums 0 xs) (c + 1) 0 → set colptr (c + 1) acc ≡ front (sums 0 xs) (set colptr₀ 0 0) (c + 1 + 1)
+    more acc h s =
+        rw (e, s) (front_more (sums 0 xs) (set colptr₀ 0 0) 0 (c + 1) (omega (arith, length-sums 0 xs)) (simp length-set (omega arith)))
 
-  size : c ≤ n → colptr ≡ front (sums 0 (take n counts)) (set colptr₀ 0 0) (c + 1) → length colptr ≡ length colptr₀
-  size h e =
-      ap length e ∙ front_length (sums 0 (take n counts)) (set colptr₀ 0 0) (c + 1) (omega (arith, long)) (simp length-set (omega arith)) ∙ length-set colptr₀ 0 0
-
-  more : (acc : ℕ) → c < n → colptr ≡ front (sums 0 (take n counts)) (set colptr₀ 0 0) (c + 1) → acc ≡ get_or (sums 0 (take n counts)) (c + 1) 0 → set colptr (c + 1) acc ≡ front (sums 0 (take n counts)) (set colptr₀ 0 0) (c + 1 + 1)
-  more acc h e s =
-      rw (e, s) (front_more (sums 0 (take n counts)) (set colptr₀ 0 0) 0 (c + 1) (omega (arith, long)) (simp length-set (omega arith)))
-
-  done : c ≤ n → n ≤ c → colptr ≡ front (sums 0 (take n counts)) (set colptr₀ 0 0) (c + 1) → colptr ≡ over (sums 0 (take n counts)) colptr₀
-  unfolding over
-  done h g e =
-      e
-      ∙ front_all (sums 0 (take n counts)) (set colptr₀ 0 0) (c + 1) (omega (arith, long))
-      ∙ ap (λ (l : List ℕ). sums 0 (take n counts) ++ l) (drop-set-lt (length (sums 0 (take n counts))) colptr₀ 0 0 (omega (arith, long)))
+    done : c ≡ length xs → colptr ≡ over (sums 0 xs) colptr₀
+    unfolding over
+    done h =
+        e
+        ∙ front_all (sums 0 xs) (set colptr₀ 0 0) (c + 1) (omega (arith, length-sums 0 xs))
+        ∙ ap (λ (l : List ℕ). sums 0 xs ++ l) (drop-set-lt (length (sums 0 xs)) colptr₀ 0 0 (omega (arith, length-sums 0 xs)))
 
 pub loop-c-init : goal.loop-c-init
-loop-c-init c = (search rules, sym (sums_first 0 _ 0), begun _ c.args.colptr.now (omega arith))
+loop-c-init c = (sym (sums_first 0 _ 0), begun _ c.args.colptr.now (omega arith))
 
 pub overflow_add-acc : goal.overflow_add-acc
 overflow_add-acc c =
-    omega (arith, next-sum _ _ _ _ c.requires.n_in_bounds c.loop-c-test.true c.loop-c.invariant.1, c.requires.by_index (c.loop-c.c + 1) (omega (arith, c.loop-c-test.true)))
-
-pub bounds-colptr-c : goal.bounds-colptr-c
-bounds-colptr-c c =
-    omega (arith, size _ c.args.colptr.now _ _ c.loop-c.c c.requires.n_in_bounds c.requires.n_in_bounds_2 c.loop-c.invariant.0 c.loop-c.invariant.2)
+    let counted = length-take-le c.args.n c.args.counts.now c.requires.n_in_bounds in
+    omega (arith, counted, next-sum _ _ _ c.loop-c-test.true c.loop-c.invariant.0, c.requires.by_index (c.loop-c.c + 1) (omega (arith, counted, c.loop-c-test.true)))
 
 pub loop-c-preserved : goal.loop-c-preserved
 loop-c-preserved c =
-    let sum = next-sum _ _ _ _ c.requires.n_in_bounds c.loop-c-test.true c.loop-c.invariant.1 in
-    (search rules, sum, more _ c.args.colptr.now _ _ c.loop-c.c c.requires.n_in_bounds c.requires.n_in_bounds_2 _ c.loop-c-test.true c.loop-c.invariant.2 sum)
-
-pub shape_of-colptr : goal.shape_of-colptr
-shape_of-colptr c =
-    size _ c.args.colptr.now _ _ c.loop-c.c c.requires.n_in_bounds c.requires.n_in_bounds_2 c.loop-c.invariant.0 c.loop-c.invariant.2
+    let counted = length-take-le c.args.n c.args.counts.now c.requires.n_in_bounds in
+    let sum = next-sum _ _ _ c.loop-c-test.true c.loop-c.invariant.0 in
+    (sum, more _ c.loop-c.c c.args.colptr.now _ (omega (arith, counted)) c.loop-c.invariant.1 _ c.loop-c-test.true sum)
 
 pub returns : goal.returns
 returns c =
-    done _ c.args.colptr.now _ _ c.loop-c.c c.requires.n_in_bounds c.requires.n_in_bounds_2 c.loop-c.invariant.0 c.loop-c-test.false c.loop-c.invariant.2
+    let counted = length-take-le c.args.n c.args.counts.now c.requires.n_in_bounds in
+    done _ c.loop-c.c c.args.colptr.now _ (omega (arith, counted)) c.loop-c.invariant.1 (omega (arith, c.loop-c-test.false, c.loop-c.auto.c-end))

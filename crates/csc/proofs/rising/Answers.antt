@@ -1,16 +1,8 @@
-use native.Mathlib.Omega.{arith}
-use Rattle.csc.proofs.Rises.{rises_found, rises_passed, rises-done}
+use Rattle.std.proofs.Common.{rules}
+use Rattle.std.proofs.lemmas.List.Sorted.{answers_always}
+use lib.Dec.{ltb}
+use Rattle.csc.proofs.Rises.{rises_answer}
 use Rattle.csc.proofs.rising.Goals as goal
 
-pub returns-then-wide : goal.returns-then-wide
-returns-then-wide c =
-    rises_found _ _ c.loop-j.invariant.0 c.loop-j.invariant.1 c.loop-j-test.true (rw (c.wide.ensures, c.wide-in-loop-j.ensures) at c.if-wide.true)
-
-pub loop-j-preserved : goal.loop-j-preserved
-loop-j-preserved c = (
-  omega arith,
-  rises_passed _ _ c.loop-j.invariant.0 c.loop-j.invariant.1 c.loop-j-test.true (rw (c.wide.ensures, c.wide-in-loop-j.ensures) at c.if-wide.false),
-)
-
 pub returns : goal.returns
-returns c = rises-done _ _ c.loop-j.invariant.0 c.loop-j.invariant.1 c.loop-j-test.false
+returns c = rises_answer _ _ (c.is_sorted_by.ensures.cases ltb (answers_always _ _ _ (λ f a r g h. search rules)))

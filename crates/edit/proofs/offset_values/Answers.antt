@@ -1,49 +1,29 @@
-use Prim.Native.Nat.{◌<◌}
-use mathlib.Core.Path.{refl}
-use native.Mathlib.Omega.{arith}
+use Rattle.std.proofs.Common.{length, rules, refl, arith}
+use Rattle.std.proofs.lemmas.Slice.Zip.{zip_turn, zip_end}
 use lib.IntN.{pos}
-use lib.ListN.{length, get_or, length-set}
 use mir.Syntax.{w8}
 use mir.ValLaws.{to_z-of_z}
+use lib.ListN.{length-append}
 use Rattle.edit.specs.Edit.{offset as offsetted}
-use Rattle.edit.proofs.Edited.{edited-inside, edited_more, edited-done}
+use Rattle.edit.proofs.Edited.{edited_more, edited-done}
 use Rattle.edit.proofs.offset_values.Goals as goal
-use Rattle.edit.proofs.offset_values.Goals.{After-place-p}
 
-pub loop-j-init : goal.loop-j-init
+pub loop-index-init : goal.loop-index-init
 unfolding offsetted
-loop-j-init c = (refl, refl)
+loop-index-init c = refl
 
-pub place-p-requires : goal.place-p-requires
-place-p-requires c = record { j_in_bounds = c.loop-j-test.true; j_in_bounds_2 = c.requires.editable.indexed c.loop-j.j c.loop-j-test.true }
-
--- the place that the turn takes is one of vals
-inside : (c : After-place-p) → c.place-p.result < length c.loop-j.vals
-inside c = edited-inside c.requires.editable c.loop-j.invariant.0 c.loop-j.j c.loop-j-test.true c.place-p.ensures
-
-pub bounds-signs-j : goal.bounds-signs-j
-bounds-signs-j c = omega (arith, c.requires.signs_len)
-
-pub offset_bounds-vals-p : goal.offset_bounds-vals-p
-offset_bounds-vals-p c = omega (arith, inside (goal.at.offset_bounds-vals-p c).After-place-p)
-
-pub bounds-vals-p : goal.bounds-vals-p
-bounds-vals-p c = omega (arith, inside (goal.at.bounds-vals-p c).After-place-p)
-
-pub offset_bounds-vals-p-in-loop-j : goal.offset_bounds-vals-p-in-loop-j
-offset_bounds-vals-p-in-loop-j c = omega (arith, inside (goal.at.offset_bounds-vals-p-in-loop-j c).After-place-p)
-
-pub bounds-vals-p-in-loop-j : goal.bounds-vals-p-in-loop-j
-bounds-vals-p-in-loop-j c = omega (arith, inside (goal.at.bounds-vals-p-in-loop-j c).After-place-p)
-
-pub loop-j-preserved : goal.loop-j-preserved
-loop-j-preserved c =
-    let sign = get_or c.args.signs.now c.loop-j.j (pos 0) in
-    let read = to_z-of_z w8 sign (record { sfits = c.sign-1.given }) in (
-      simp length-set c.loop-j.invariant.0,
-      edited_more _ _ _ _ _ _ c.loop-j.invariant.1 (pos 0) c.loop-j-test.true (omega (arith, c.requires.signs_len)) c.place-p.ensures
-          (rw read at c.offset_by.ensures),
-    )
+pub loop-index-preserved : goal.loop-index-preserved
+loop-index-preserved c =
+    let from = c.into_iter-index-iterator.ensures.into_iter_gives in
+    let turn = zip_turn c.args.indices.now c.args.signs.now _ _ _ c.next.new.self _ (rw (from, c.zip-index-items.ensures.first) c.iter.ensures.rest)
+    (rw from c.zip-index-items.ensures.second.0) c.loop-index.yielded_by _ c.in-Some.is c.next.ensures.steps in
+    let read = to_z-of_z w8 c.in-Some.sign.now (record { sfits = search rules }) in
+    rw (length-append c.loop-index.yielded)
+    (edited_more _ _ _ _ _ _ c.loop-index.invariant (pos 0) turn.0 turn.1 (rw (turn.2 0) at c.place-p.ensures) (rw (read, turn.3 (pos 0)) at c.offset_by.ensures))
 
 pub returns : goal.returns
-returns c = edited-done _ _ _ _ _ _ c.loop-j.invariant.1 c.loop-j-test.false
+returns c =
+    let from = c.into_iter-index-iterator.ensures.into_iter_gives in
+    let end = zip_end c.args.indices.now c.args.signs.now _ _ _ c.next.new.self _ (rw (from, c.zip-index-items.ensures.first) c.iter.ensures.rest)
+    (rw from c.zip-index-items.ensures.second.0) c.loop-index.yielded_by c.in-None.is c.next.ensures.steps in
+    edited-done _ _ _ _ _ (length c.loop-index.yielded) c.loop-index.invariant (omega (arith, end, c.requires.signs_len))

@@ -1,14 +1,10 @@
--- `edit::scale_values` meets its contract. The invariant: what is left of the indices gives what all of them do, and vals keeps its length.
--- The measure is how many indices are left. Assumes nothing.
-use Prim.Native.Nat.{◌-◌}
+-- `edit::scale_values` meets its contract. The invariant: what is left of the indices gives what all of them do.
+-- Assumes nothing.
 use mathlib.Core.Path.{◌≡◌}
-use lib.ListN.{length, drop}
+use lib.ListN.{drop}
 use Rattle.pivot.specs.Pivots.{◌⊗◌}
 use Rattle.edit.specs.Edit.{edited, scaled}
 use Rattle.edit.proofs.scale_values.Given as goal
 
-abbrev pub invariant-loop-j : goal.invariant-loop-j
-invariant-loop-j l = (length l.vals ≡ length l.initial.vals) × (edited (λ i old. old ⊗ l.scale) l.map (drop l.j l.indices) (drop l.j l.indices) l.vals ≡ scaled l.map l.indices l.scale l.initial.vals)
-
-abbrev pub decreases-loop-j : goal.decreases-loop-j
-decreases-loop-j l = length l.indices - l.j
+abbrev pub invariant-loop-index : goal.invariant-loop-index
+invariant-loop-index l = edited (λ i old. old ⊗ l.scale) l.map (drop l.index-index l.indices) (drop l.index-index l.indices) l.vals ≡ scaled l.map l.indices l.scale l.initial.vals

@@ -1,41 +1,26 @@
-use Prim.Native.Nat.{◌<◌}
-use mathlib.Core.Path.{refl}
-use native.Mathlib.Omega.{arith}
+use Rattle.std.proofs.Common.{length, refl, arith}
+use Rattle.std.proofs.lemmas.Slice.Zip.{zip_turn, zip_end}
 use lib.Ieee.{nan}
-use lib.ListN.{length, length-set}
+use lib.ListN.{length-append}
 use Rattle.edit.specs.Edit.{updated}
-use Rattle.edit.proofs.Edited.{edited-inside, edited_more, edited-done}
+use Rattle.edit.proofs.Edited.{edited_more, edited-done}
 use Rattle.edit.proofs.update_values.Goals as goal
-use Rattle.edit.proofs.update_values.Goals.{After-place-p}
 
-pub loop-j-init : goal.loop-j-init
+pub loop-index-init : goal.loop-index-init
 unfolding updated
-loop-j-init c = (refl, refl)
+loop-index-init c = refl
 
-pub place-p-requires : goal.place-p-requires
-place-p-requires c = record { j_in_bounds = c.loop-j-test.true; j_in_bounds_2 = c.requires.editable.indexed c.loop-j.j c.loop-j-test.true }
-
--- the place that the turn takes is one of vals
-inside : (c : After-place-p) → c.place-p.result < length c.loop-j.vals
-inside c = edited-inside c.requires.editable c.loop-j.invariant.0 c.loop-j.j c.loop-j-test.true c.place-p.ensures
-
-pub offset_bounds-values-j : goal.offset_bounds-values-j
-offset_bounds-values-j c = omega (arith, c.requires.values_len)
-
-pub bounds-values-j : goal.bounds-values-j
-bounds-values-j c = omega (arith, c.requires.values_len)
-
-pub offset_bounds-vals-p : goal.offset_bounds-vals-p
-offset_bounds-vals-p c = omega (arith, c.requires.values_len, inside (goal.at.offset_bounds-vals-p c).After-place-p)
-
-pub bounds-vals-p : goal.bounds-vals-p
-bounds-vals-p c = omega (arith, inside (goal.at.bounds-vals-p c).After-place-p)
-
-pub loop-j-preserved : goal.loop-j-preserved
-loop-j-preserved c = (
-  simp length-set c.loop-j.invariant.0,
-  edited_more _ _ _ _ _ _ c.loop-j.invariant.1 nan c.loop-j-test.true (omega (arith, c.requires.values_len)) c.place-p.ensures refl,
-)
+pub loop-index-preserved : goal.loop-index-preserved
+loop-index-preserved c =
+    let from = c.into_iter-index-iterator.ensures.into_iter_gives in
+    let turn = zip_turn c.args.indices.now c.args.values.now _ _ _ c.next.new.self _ (rw (from, c.zip-index-items.ensures.first) c.iter.ensures.rest)
+    (rw from c.zip-index-items.ensures.second.0) c.loop-index.yielded_by _ c.in-Some.is c.next.ensures.steps in
+    rw (length-append c.loop-index.yielded)
+    (edited_more _ _ _ _ _ _ c.loop-index.invariant nan turn.0 turn.1 (rw (turn.2 0) at c.place-p.ensures) (turn.3 nan))
 
 pub returns : goal.returns
-returns c = edited-done _ _ _ _ _ _ c.loop-j.invariant.1 c.loop-j-test.false
+returns c =
+    let from = c.into_iter-index-iterator.ensures.into_iter_gives in
+    let end = zip_end c.args.indices.now c.args.values.now _ _ _ c.next.new.self _ (rw (from, c.zip-index-items.ensures.first) c.iter.ensures.rest)
+    (rw from c.zip-index-items.ensures.second.0) c.loop-index.yielded_by c.in-None.is c.next.ensures.steps in
+    edited-done _ _ _ _ _ (length c.loop-index.yielded) c.loop-index.invariant (omega (arith, end, c.requires.values_len))

@@ -6,15 +6,18 @@ use mathlib.Core.Bool.{Bool, true, false, not}
 use mathlib.Core.List.{List}
 use borrow.Author.Rules.{rules}
 use lib.ListN.{length, take}
+use Rattle.std.specs.Prelude.{nat_eq}
+use Rattle.std.specs.Cmp.Lexicographic.{pointwise}
 use Rattle.desk.proofs.Over.{take-written}
 use Rattle.csc.specs.Csc.{Csc, bad_pointers, not_upper}
-use Rattle.tree.specs.Strike.{parents, counts}
+use Rattle.tree.specs.Strike.{parents}
 use Rattle.tree.specs.Tree.{Treed}
 use Rattle.tree.proofs.Later.{length-parents, length-counts}
 use Rattle.factor.specs.Factor.{same, spoiled_factor}
 use Rattle.factor.proofs.Runs.{graph}
+use Rattle.factor.proofs.Tested.{same-pointwise}
 use Rattle.factor.proofs.spoiled.Goals as goal
-use Rattle.factor.proofs.spoiled.Goals.{Else-bad_pointers, Else-not_upper_triangular}
+use Rattle.factor.proofs.spoiled.Goals.{Else-bad_pointers, Else-not_upper_triangular, then-bad_pointers-via-then-bad_pointers, then-bad_pointers-via-else-bad_pointers+then-not_upper_triangular}
 
 module _ (n m : ℕ) (A : Csc) (etree lnz : List ℕ) where
   by-pointers : bad_pointers m A.colptr ≡ true → true ≡ spoiled_factor n m A etree lnz
@@ -26,43 +29,42 @@ module _ (n m : ℕ) (A : Csc) (etree lnz : List ℕ) where
     unfolding spoiled_factor
     by_rows e = rw (sound, e)
 
-    -- t and u are the answers on the tables that the tree left
-    module _ (above : not_upper n A.colptr A.rowval ≡ false) {l₀ l p₀ p : List ℕ} (S : Treed n A.colptr A.rowval l₀ l p₀ p) {t : Bool} (asked : t ≡ same etree (take n p)) where
-      parents-part : take n p ≡ parents n (graph A)
-      parents-part = take-written n _ _ _ S.struck_parents (length-parents (graph A) n)
+    -- t is whether the parents are others than those of the tree
+    module _ (above : not_upper n A.colptr A.rowval ≡ false) {l₀ l p₀ p : List ℕ} (S : Treed n A.colptr A.rowval l₀ l p₀ p) {t : Bool} (asked : t ≡ not (pointwise nat_eq etree (take n p))) where
+      parents_asked : t ≡ not (same etree (parents n (graph A)))
+      parents_asked = rw (same-pointwise etree (take n p), take-written n _ _ _ S.struck_parents (length-parents (graph A) n)) at asked
 
-      counts_part : take n l ≡ counts n (graph A)
-      counts_part = take-written n _ _ _ S.struck_counts (length-counts (graph A) n)
-
-      by-parents : not t ≡ true → true ≡ spoiled_factor n m A etree lnz
+      by-parents : t ≡ true → t ≡ spoiled_factor n m A etree lnz
       unfolding spoiled_factor
-      by-parents e = rw (sound, above, ← parents-part, ← asked, e)
+      by-parents e = rw (sound, above, ← parents_asked, e)
 
-      by-counts : not t ≡ false → {u : Bool} → u ≡ same lnz (take n l) → not u ≡ spoiled_factor n m A etree lnz
+      by-counts : t ≡ false → {u : Bool} → u ≡ not (pointwise nat_eq lnz (take n l)) → u ≡ spoiled_factor n m A etree lnz
       unfolding spoiled_factor
-      by-counts e h = rw (sound, above, ← parents-part, ← asked, e, ← counts_part, ← h)
+      by-counts e h =
+          rw (sound, above, ← parents_asked, e) (rw (same-pointwise lnz (take n l), take-written n _ _ _ S.struck_counts (length-counts (graph A) n)) at h)
 
-steady : (c : Else-bad_pointers) → bad_pointers (length c.args.rowval.now) c.args.colptr.now ≡ false
+steady : (c : Else-bad_pointers) → bad_pointers (length c.args.a.now.rowval.now) c.args.a.now.colptr.now ≡ false
 steady c = sym c.bad_pointers.ensures ∙ c.if-bad_pointers.false
 
-upper : (c : Else-not_upper_triangular) → not_upper c.args.n c.args.colptr.now c.args.rowval.now ≡ false
+upper : (c : Else-not_upper_triangular) → not_upper c.args.n c.args.a.now.colptr.now c.args.a.now.rowval.now ≡ false
 upper c = sym c.not_upper_triangular.ensures ∙ c.if-not_upper_triangular.false
 
 pub returns-then-bad_pointers : goal.returns-then-bad_pointers
-returns-then-bad_pointers c = by-pointers _ _ _ _ _ (sym c.bad_pointers.ensures ∙ c.if-bad_pointers.true)
-
-pub returns-then-not_upper_triangular : goal.returns-then-not_upper_triangular
-returns-then-not_upper_triangular c =
-    by_rows _ _ _ _ _ (steady (goal.at.returns-then-not_upper_triangular c).Else-bad_pointers) (sym c.not_upper_triangular.ensures ∙ c.if-not_upper_triangular.true)
+returns-then-bad_pointers c =
+    elim c.then-bad_pointers.branch [
+      | then-bad_pointers-via-then-bad_pointers w ↦ by-pointers _ _ _ _ _ (sym c.bad_pointers.ensures ∙ w.if-bad_pointers.true)
+      | then-bad_pointers-via-else-bad_pointers+then-not_upper_triangular w ↦
+          by_rows _ _ _ _ _ (sym c.bad_pointers.ensures ∙ w.if-bad_pointers.false) (sym w.not_upper_triangular.ensures ∙ w.if-not_upper_triangular.true)
+    ]
 
 pub etree-requires : goal.etree-requires
 etree-requires c =
     search (rules, steady (goal.at.etree-requires c).Else-bad_pointers, upper (goal.at.etree-requires c).Else-not_upper_triangular)
 
-pub returns-then-not-same : goal.returns-then-not-same
-returns-then-not-same c =
-    by-parents _ _ _ _ _ (steady (goal.at.returns-then-not-same c).Else-bad_pointers) (upper (goal.at.returns-then-not-same c).Else-not_upper_triangular) c.etree.ensures c.same.ensures (rw c.if-not-same.true)
+pub returns-then-ne : goal.returns-then-ne
+returns-then-ne c =
+    by-parents _ _ _ _ _ (steady (goal.at.returns-then-ne c).Else-bad_pointers) (upper (goal.at.returns-then-ne c).Else-not_upper_triangular) c.etree.ensures c.ne.ensures c.if-ne.true
 
-pub returns : goal.returns
-returns c =
-    by-counts _ _ _ _ _ (steady (goal.at.returns c).Else-bad_pointers) (upper (goal.at.returns c).Else-not_upper_triangular) c.etree.ensures c.same.ensures (rw c.if-not-same.false) c.same-2.ensures
+pub returns-else-ne : goal.returns-else-ne
+returns-else-ne c =
+    by-counts _ _ _ _ _ (steady (goal.at.returns-else-ne c).Else-bad_pointers) (upper (goal.at.returns-else-ne c).Else-not_upper_triangular) c.etree.ensures c.ne.ensures c.if-ne.false c.ne-else-ne.ensures

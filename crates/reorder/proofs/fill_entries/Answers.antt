@@ -2,7 +2,6 @@ use Prim.Native.Nat.{◌≤◌, ◌<◌, ◌-◌}
 use mathlib.Core.Path.{◌≡◌}
 use mathlib.Core.List.{List}
 use native.Mathlib.Omega.{arith}
-use borrow.Author.Rules.{rules}
 use lib.ListN.{length, take, drop}
 use Rattle.reorder.specs.Steps.{room_of, ColumnReady}
 use Rattle.reorder.proofs.Turns.{Tables}
@@ -18,22 +17,19 @@ module _ (c : After-wide-last) where
   taken = c.loop-c-test.true
 
   below : c.wide-first.result ≤ c.wide-last.result
-  below = starts-below c.requires.entries_ready c.loop-c.c taken _ c.column-rows.ensures c.wide-first.ensures c.wide-last.ensures
+  below = starts-below c.requires.entries_ready c.loop-c.c taken _ c.rows-rows.ensures c.wide-first.ensures c.wide-last.ensures
 
-  inside : c.wide-last.result ≤ length c.args.rowval.now
-  inside = ends_inside c.requires.entries_ready c.loop-c.c taken _ c.column-rows.ensures c.wide-first.ensures c.wide-last.ensures
+  inside : c.wide-last.result ≤ length c.args.a.now.rowval.now
+  inside = ends_inside c.requires.entries_ready c.loop-c.c taken _ c.rows-rows.ensures c.wide-first.ensures c.wide-last.ensures
 
-  lent : {A : Type 0} (l : List A) → length c.args.rowval.now ≤ length l → length (take (c.wide-last.result - c.wide-first.result) (drop c.wide-first.result l)) ≡ length c.column-rows.result.now
-  lent = long-lent c.requires.entries_ready c.loop-c.c taken _ c.column-rows.ensures c.wide-first.ensures c.wide-last.ensures
+  lent : {A : Type 0} (l : List A) → length c.args.a.now.rowval.now ≤ length l → length (take (c.wide-last.result - c.wide-first.result) (drop c.wide-first.result l)) ≡ length c.rows-rows.result.now
+  lent = long-lent c.requires.entries_ready c.loop-c.c taken _ c.rows-rows.ensures c.wide-first.ensures c.wide-last.ensures
 
-  ready : ColumnReady c.loop-c.c (room_of c.args.pr.now c.args.pv.now) c.column-rows.result.now c.args.iperm.now c.loop-c.next
-  ready = column-ready c.requires.entries_ready _ _ c.loop-c.invariant.1 taken _ c.column-rows.ensures
+  ready : ColumnReady c.loop-c.c (room_of c.args.pr.now c.args.pv.now) c.rows-rows.result.now c.args.iperm.now c.loop-c.next
+  ready = column-ready c.requires.entries_ready _ _ c.loop-c.invariant.0 taken _ c.rows-rows.ensures
 
 pub loop-c-init : goal.loop-c-init
-loop-c-init c = (search rules, pass_all c.requires.entries_ready, placing_begin c.requires.entries_ready c.args.nzval.now _)
-
-pub offset_bounds-nzval-first : goal.offset_bounds-nzval-first
-offset_bounds-nzval-first c = omega (arith, below (goal.at.offset_bounds-nzval-first c).After-wide-last, inside (goal.at.offset_bounds-nzval-first c).After-wide-last, c.requires.nzval_len)
+loop-c-init c = (pass_all c.requires.entries_ready, placing_begin c.requires.entries_ready c.args.a.now.nzval.now _)
 
 pub slice_bounds-fill_column-count : goal.slice_bounds-fill_column-count
 slice_bounds-fill_column-count c = below (goal.at.slice_bounds-fill_column-count c).After-wide-last
@@ -50,26 +46,22 @@ slice_bounds-fill_column-count-in-loop-c c = below (goal.at.slice_bounds-fill_co
 pub slice_bounds-fill_column-start-in-loop-c : goal.slice_bounds-fill_column-start-in-loop-c
 slice_bounds-fill_column-start-in-loop-c c = below (goal.at.slice_bounds-fill_column-start-in-loop-c c).After-wide-last
 
-pub slice_bounds-fill_column-end-in-loop-c : goal.slice_bounds-fill_column-end-in-loop-c
-slice_bounds-fill_column-end-in-loop-c c = omega (arith, inside (goal.at.slice_bounds-fill_column-end-in-loop-c c).After-wide-last, c.requires.rowval_in_bounds, c.loop-c.invariant.2.long_map)
-
 pub fill_column-requires : goal.fill_column-requires
 fill_column-requires c =
     record {
-      column_ready = rw (c.loop-c.invariant.2.long_rows, c.loop-c.invariant.2.long_values) (ready (goal.at.fill_column-requires c).After-wide-last);
+      column_ready = rw (c.loop-c.invariant.1.long_rows, c.loop-c.invariant.1.long_values) (ready (goal.at.fill_column-requires c).After-wide-last);
       vals_len = lent (goal.at.fill_column-requires c).After-wide-last _ (omega (arith, c.requires.nzval_len));
-      map_len = lent (goal.at.fill_column-requires c).After-wide-last _ (omega (arith, c.requires.rowval_in_bounds, c.loop-c.invariant.2.long_map));
+      map_len = lent (goal.at.fill_column-requires c).After-wide-last _ (omega (arith, c.requires.rowval_in_bounds, c.loop-c.invariant.1.long_map));
     }
 
 pub loop-c-preserved : goal.loop-c-preserved
 loop-c-preserved c =
     let last = c.fill_column.new in
     let done = c.fill_column.ensures in (
-      search rules,
-      pass_on c.requires.entries_ready _ _ c.loop-c.invariant.1 (taken (goal.at.loop-c-preserved c).After-wide-last) _ c.column-rows.ensures last.next done.moved,
-      placing_pass c.requires.entries_ready c.loop-c.c (taken (goal.at.loop-c-preserved c).After-wide-last) _ c.column-rows.ensures c.wide-first.ensures c.wide-last.ensures c.args.nzval.now (tables (goal.at.loop-c-preserved c).At-loop-c) last.next last.pr last.map last.pv c.requires.nzval_len (omega (arith, c.requires.rowval_in_bounds, c.loop-c.invariant.2.long_map)) done c.loop-c.invariant.2,
+      pass_on c.requires.entries_ready _ _ c.loop-c.invariant.0 (taken (goal.at.loop-c-preserved c).After-wide-last) _ c.rows-rows.ensures last.next done.moved,
+      placing_pass c.requires.entries_ready c.loop-c.c (taken (goal.at.loop-c-preserved c).After-wide-last) _ c.rows-rows.ensures c.wide-first.ensures c.wide-last.ensures c.args.a.now.nzval.now (tables (goal.at.loop-c-preserved c).At-loop-c) last.next last.pr last.map last.pv c.requires.nzval_len (omega (arith, c.requires.rowval_in_bounds, c.loop-c.invariant.1.long_map)) done c.loop-c.invariant.1,
     )
 
 pub returns : goal.returns
 returns c =
-    placing_end c.requires.entries_ready c.args.nzval.now c.loop-c.c (tables (goal.at.returns c).At-loop-c) _ _ _ _ c.loop-c-test.false c.loop-c.invariant.2 (pass_done c.requires.entries_ready _ _ c.loop-c.invariant.1 c.loop-c-test.false)
+    placing_end c.requires.entries_ready c.args.a.now.nzval.now c.loop-c.c (tables (goal.at.returns c).At-loop-c) _ _ _ _ c.loop-c-test.false c.loop-c.invariant.1 (pass_done c.requires.entries_ready _ _ c.loop-c.invariant.0 c.loop-c-test.false)

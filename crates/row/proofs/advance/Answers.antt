@@ -2,20 +2,20 @@
 use Prim.Native.Nat.{ℕ, ◌+◌}
 use mathlib.Core.Path.{◌≡◌, refl, sym, ◌∙◌}
 use mathlib.Core.Bool.{true, false}
+use Rattle.std.specs.Prelude.{Ok, Err}
 use Rattle.pivot.specs.declared.Pivot.{Pivot}
 use Rattle.pivot.specs.Pivots.{is_zero, is_positive}
 use Rattle.row.specs.declared.Progress.{Progress}
-use Rattle.row.specs.declared.Step.TheVariants.{Done, ZeroPivot}
-use Rattle.row.specs.Steps.{plus, progress, step_of}
+use Rattle.row.specs.Steps.{plus, progress, zero_pivot, step_of}
 use Rattle.row.proofs.advance.Goals as goal
 
 module _ (t : Progress) (p : Pivot) {shifts : ℕ} (e : shifts ≡ plus t.shifts p.shifted) where
-  zero-step : is_zero p.value ≡ true → ZeroPivot (progress t.row 0 shifts) ≡ step_of p t
+  zero-step : is_zero p.value ≡ true → Err (zero_pivot t.row shifts) ≡ step_of p t
   unfolding step_of
   zero-step z = rw (z, e)
 
   done-step : {inertia : ℕ} → is_zero p.value ≡ false → inertia ≡ plus t.inertia (is_positive p.value) →
-      Done (progress (t.row + 1) inertia shifts) ≡ step_of p t
+      Ok (progress (t.row + 1) inertia shifts) ≡ step_of p t
   unfolding step_of
   done-step z i = rw (z, e, i)
 

@@ -1,17 +1,18 @@
-use Prim.Native.Nat.{◌<◌}
 use mathlib.Core.Path.{◌∙◌}
-use native.Mathlib.Omega.{arith}
 use borrow.Author.Tests.{eq-eqb, ne_eqb}
-use lib.ListN.{length}
+use Rattle.std.proofs.lemmas.Slice.Zip.{either_empty_from_Zip}
 use Rattle.row.proofs.Turns.{diagonal_more, diagonal-done}
 use Rattle.row.proofs.diagonal.Goals as goal
-use Rattle.row.proofs.diagonal.Goals.{then-wide-k, else-wide-k}
 
-pub loop-j-preserved : goal.loop-j-preserved
-loop-j-preserved c =
-    let l : c.loop-j.j < length c.args.vals.now = omega (arith, c.loop-j-test.true, c.requires) in
-    let e = diagonal_more _ _ _ c.loop-j-test.true l c.wide.ensures _ c.loop-j.found ∙ c.loop-j.invariant in
-    elim c.if-wide-k.branch [ then-wide-k w ↦ rw w.found-is (rw (eq-eqb _ _ w.if-wide-k.true) at e) | else-wide-k w ↦ rw w.found-is (rw (ne_eqb _ _ w.if-wide-k.false) at e) ]
+pub loop-row-preserved-then-wide-k : goal.loop-row-preserved-then-wide-k
+loop-row-preserved-then-wide-k c =
+    let (e, f) = c.in-Some.ensures.steps in
+    rw (eq-eqb _ _ (rw c.wide.ensures at c.if-wide-k.true)) at (diagonal_more e f c.args.k c.loop-row.found) ∙ c.loop-row.invariant
+
+pub loop-row-preserved : goal.loop-row-preserved
+loop-row-preserved c =
+    let (e, f) = c.in-Some.ensures.steps in
+    rw (ne_eqb _ _ (rw c.wide.ensures at c.if-wide-k.false)) at (diagonal_more e f c.args.k c.loop-row.found) ∙ c.loop-row.invariant
 
 pub returns : goal.returns
-returns c = diagonal-done _ _ _ c.loop-j-test.false _ _ ∙ c.loop-j.invariant
+returns c = diagonal-done _ _ _ _ (either_empty_from_Zip c.loop-row.row-iterator c.next.new.self _ c.in-None.is c.next.ensures.steps) ∙ c.loop-row.invariant

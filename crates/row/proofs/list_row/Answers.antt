@@ -6,12 +6,11 @@ pub reach-top-requires : goal.reach-top-requires
 reach-top-requires c = (_, list_reachable _ _ _ _ _ _ _ _ _ c.requires.1.1)
 
 pub list_all-requires : goal.list_all-requires
-list_all-requires c =
-    (_, (_, list_start _ _ _ _ _ _ _ _ _ c.requires.1.1 _ _ _ c.reach-top.ensures c.reach-top.auto.marks c.reach-top.auto.order))
+list_all-requires c = (_, (_, list_start _ _ _ _ _ _ _ _ _ c.requires.1.1 _ _ _ c.reach-top.ensures c.reach-top.auto.marks))
 
 pub returns : goal.returns
 returns c =
     λ g old b.
-    let sm = c.reach-top.auto.marks in
-    let so = c.reach-top.auto.order in
-    list_row_done g old _ _ _ _ _ _ _ b _ _ _ c.reach-top.ensures sm so _ _ _ (c.list_all.ensures g old (list_start g old _ _ _ _ _ _ _ b _ _ _ c.reach-top.ensures sm so))
+    let e = c.reach-top.ensures in
+    let m = c.reach-top.auto.marks in
+    list_row_done g old _ _ _ _ _ _ _ b _ _ _ e m _ _ _ (c.list_all.ensures g old (list_start g old _ _ _ _ _ _ _ b _ _ _ e m))

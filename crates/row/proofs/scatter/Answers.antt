@@ -1,39 +1,13 @@
-use Prim.Native.Nat.{◌<◌}
-use mathlib.Core.Path.{refl, ◌∙◌}
-use native.Mathlib.Omega.{arith}
-use lib.ListN.{length, length-set}
-use Rattle.row.proofs.Turns.{scattered_more, scattered-done}
+use mathlib.Core.Path.{◌∙◌}
+use lib.ListN.{length-set}
+use Rattle.std.proofs.lemmas.Slice.Zip.{either_empty_from_Zip}
+use Rattle.row.proofs.Turns.{rest_inside, scattered_more, scattered-done}
 use Rattle.row.proofs.scatter.Goals as goal
-use Rattle.row.proofs.scatter.Goals.{After-wide-r}
 
-pub loop-j-init : goal.loop-j-init
-loop-j-init c = (refl, refl)
-
--- the row that the turn takes is a place of x
-inside : (c : After-wide-r) → c.wide-r.result < length c.loop-j.x
-inside c =
-    omega (arith, c.wide-r.ensures, c.requires.by_index c.loop-j.j c.loop-j-test.true, c.loop-j.invariant.0)
-
-pub offset_bounds-x-r : goal.offset_bounds-x-r
-offset_bounds-x-r c = omega (arith, inside (goal.at.offset_bounds-x-r c).After-wide-r)
-
-pub bounds-x-r : goal.bounds-x-r
-bounds-x-r c = inside (goal.at.bounds-x-r c).After-wide-r
-
-pub bounds-vals-j : goal.bounds-vals-j
-bounds-vals-j c = omega (arith, c.requires.rows_len)
-
-pub offset_bounds-x-r-in-loop-j : goal.offset_bounds-x-r-in-loop-j
-offset_bounds-x-r-in-loop-j c = omega (arith, inside (goal.at.offset_bounds-x-r-in-loop-j c).After-wide-r)
-
-pub bounds-x-r-in-loop-j : goal.bounds-x-r-in-loop-j
-bounds-x-r-in-loop-j c = inside (goal.at.bounds-x-r-in-loop-j c).After-wide-r
-
-pub loop-j-preserved : goal.loop-j-preserved
-loop-j-preserved c = (
-  simp length-set c.loop-j.invariant.0,
-  scattered_more _ _ _ c.loop-j-test.true (omega (arith, c.requires.rows_len)) c.wide-r.ensures _ _ ∙ c.loop-j.invariant.1,
-)
+pub loop-row-preserved : goal.loop-row-preserved
+loop-row-preserved c =
+    let (e, f) = c.in-Some.ensures.steps in
+    rw c.wide.ensures (rw length-set (rest_inside e c.loop-row.invariant.0), scattered_more e f _ _ ∙ c.loop-row.invariant.1)
 
 pub returns : goal.returns
-returns c = scattered-done _ _ _ c.loop-j-test.false _ _ ∙ c.loop-j.invariant.1
+returns c = scattered-done _ _ _ _ (either_empty_from_Zip c.loop-row.row-iterator c.next.new.self _ c.in-None.is c.next.ensures.steps) ∙ c.loop-row.invariant.1

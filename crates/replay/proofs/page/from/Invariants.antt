@@ -1,10 +1,10 @@
--- `replay::page::from` meets its contract. The invariant: the loop stands within the page.
--- The measure is how many bytes are left, and each line has one.
-use Rattle.std.proofs.Common.{length, ◌-◌, ◌≤◌}
+-- `replay::page::from` meets its contract. The invariant: what is left is no longer than the page. The measure is how many bytes are
+-- left, and each line has one.
+use Rattle.std.proofs.Common.{◌≤◌, length}
 use Rattle.replay.proofs.page.from.Given as goal
 
-abbrev pub invariant-loop-at : goal.invariant-loop-at
-invariant-loop-at l = l.at ≤ length l.page
+abbrev pub invariant-loop-name : goal.invariant-loop-name
+invariant-loop-name l = length l.rest ≤ length l.page
 
-abbrev pub decreases-loop-at : goal.decreases-loop-at
-decreases-loop-at l = length l.page - l.at
+abbrev pub decreases-loop-name : goal.decreases-loop-name
+decreases-loop-name l = length l.rest
