@@ -34,6 +34,7 @@ is_numeric Failed = false
 abbrev pub Answer : Type 0
 Answer = Result Status Refused
 
+-- a refusal, with the status handed back
 abbrev pub refuse : Refusal → Status → Refused
 refuse r s = record { refusal = r; status = s }
 
