@@ -1,7 +1,7 @@
 /* Coinravel: the analysis of a sparse symmetric matrix for its LDL^T factor, proved to meet its contract.
  *
- * Link with libface.a (x86-64 Linux), which `harness/archives` writes to target/staticlib/. It calls nothing but memset and
- * memmove, keeps no state between calls, and allocates nothing: every table is the caller's.
+ * Link with libface.a (x86-64 Linux), which `harness/archives` writes to target/staticlib/. It calls nothing but memset,
+ * keeps no state between calls, and allocates nothing: every table is the caller's.
  *
  * A matrix is its upper triangle by columns, of order n with m entries. Column c has the entries colptr[c] up to, not
  * including, colptr[c + 1] of rowval and nzval; its rows rise strictly, are at most c, and there is at least one.

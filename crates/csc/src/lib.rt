@@ -54,8 +54,9 @@ pub fn bad_pointers(colptr: &[u32], m: usize) -> bool
     if colptr.is_empty() {
         return true;
     }
+    let late = colptr[0] != 0;
     let last = colptr.len() - 1;
-    (colptr[0] != 0) | (falls(colptr, last) | (wide(colptr[last]) != m))
+    late || (falls(colptr, last) | (wide(colptr[last]) != m))
 }
 
 // Whether one of the rows is n or more.
@@ -149,11 +150,13 @@ pub fn accumulate(counts: &[u32], n: usize, colptr: &mut [u32])
     }
 }
 
-// Copies the first n pointers: each column's next free place is its first.
+// Copies the first n pointers: each column's next free place is its first. A loop: `copy_from_slice` is memmove, which the archives call nowhere.
 pub fn copy_starts(colptr: &[u32], n: usize, next: &mut [u32])
     requires n_in_bounds { n ≤ length colptr.now }
     requires n_in_bounds_2 { n ≤ length next.old }
     ensures { next.new ≡ over (take n colptr.now) next.old }
 {
-    next[..n].copy_from_slice(&colptr[..n]);
+    for (c, start) in colptr[..n].iter().enumerate() {
+        next[c] = *start;
+    }
 }

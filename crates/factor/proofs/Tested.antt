@@ -1,18 +1,16 @@
 -- What a factor's tables are that passed the test, and with it, of the parents as lent: where no pivot is zero, L's columns are those of
 -- plain striking out (demand 3). Assumes nothing.
 use Prim.Native.Nat.{ℕ, ◌+◌, ◌≤◌, ◌<◌}
-use mathlib.Core.Path.{◌≡◌, refl, ap}
-use mathlib.Core.Bool.{true, false, not, ◌&&◌, false≢true}
+use mathlib.Core.Path.{◌≡◌, refl, sym, ap}
+use mathlib.Core.Bool.{true, false, not, false≢true}
 use mathlib.Core.List.{List, [], ◌∷◌}
-use borrow.Author.Tests.{eqb-true, not-false}
+use borrow.Author.Tests.{eqb-true, eq-eqb, not-false}
 use lib.Dec.{eqb}
 use lib.IntN.{ℤ}
 use lib.ListN.{length, get_or}
 use lib.Seq.{slice}
-use Rattle.std.specs.Prelude.{nat_eq}
-use Rattle.std.specs.Cmp.Lexicographic.{pointwise}
 use Rattle.desk.specs.Lists.{total, upto}
-use Rattle.desk.proofs.Both.{both, neither}
+use Rattle.desk.proofs.Both.{both, neither, is_false}
 use Rattle.csc.specs.Csc.{Csc, column, bad_pointers, not_upper}
 use Rattle.tree.specs.Strike.{parents, counts, later, pointers_of_l}
 use Rattle.pivot.specs.declared.Regularisation.{Regularisation}
@@ -27,13 +25,14 @@ same_true [] (y ∷ ys) h = absurd (false≢true h)
 same_true (x ∷ xs) [] h = absurd (false≢true h)
 same_true (x ∷ xs) (y ∷ ys) h = let b = both (eqb x y) (same xs ys) h in cc (eqb-true x y b.0, same_true xs ys b.1)
 
--- the code's `==`
-pub same-pointwise : (xs ys : List ℕ) → pointwise nat_eq xs ys ≡ same xs ys
+pub same_refl : (xs : List ℕ) → same xs xs ≡ true
 unfolding same
-same-pointwise [] [] = refl
-same-pointwise [] (y ∷ ys) = refl
-same-pointwise (x ∷ xs) [] = refl
-same-pointwise (x ∷ xs) (y ∷ ys) = ap (λ b. eqb x y && b) (same-pointwise xs ys)
+same_refl [] = refl
+same_refl (x ∷ xs) = rw (eq-eqb x x refl) (same_refl xs)
+
+-- what tells two lists apart
+pub same_apart : {A : Type 0} (f : List ℕ → A) (xs ys : List ℕ) → (f xs ≡ f ys → ⊥) → false ≡ same xs ys
+same_apart f xs ys h = sym (is_false (same xs ys) (λ e. h (ap f (same_true xs ys e))))
 
 -- the four tests
 pub record Passed (n m : ℕ) (A : Csc) (etree lnz : List ℕ) : Type 0 where

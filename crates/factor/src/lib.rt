@@ -6,13 +6,28 @@ ghost use Rattle.std.specs.Prelude.{◌≡◌, ℕ, ◌+◌, ◌^◌, ◌<◌, �
 ghost use Rattle.desk.specs.Lists.{sums, over};
 ghost use Rattle.csc.specs.Csc.{lent};
 ghost use Rattle.tree.specs.Strike.{entry, rows_of_l};
-ghost use Rattle.factor.specs.Factor.{spoiled_factor, logical_tables};
+ghost use Rattle.factor.specs.Factor.{same, spoiled_factor, logical_tables};
 ghost use Rattle.factor.specs.Steps.{Testable, whole, Runnable, Ran, tables, Prepared, Signed, Factored, Unlisted, Stored, diagonals_of};
 
 use csc::{CscMatrix, accumulate, bad_pointers, copy_starts};
 use desk::{fill, wide};
 use pivot::Regularisation;
 use row::{Progress, ZeroPivot, row};
+
+// Whether two tables have the same numbers. A loop: `==` of slices is a function of its own in the archive, which calls none.
+fn same(a: &[u32], b: &[u32]) -> bool
+    ensures { result ≡ same a.now b.now }
+{
+    if a.len() != b.len() {
+        return false;
+    }
+    for i in 0..a.len() {
+        if a[i] != b[i] {
+            return false;
+        }
+    }
+    true
+}
 
 // Refusal 11, Spoiled, in the factor: whether pointers or rows don't fit, or parents or counts aren't those of the pattern, whose tree is
 // written to scratch alone.
@@ -32,7 +47,7 @@ pub fn spoiled(
         return true;
     }
     tree::etree(n, a, work, &mut *counts, &mut *parents);
-    etree != &parents[..n] || lnz != &counts[..n]
+    !same(etree, &parents[..n]) || !same(lnz, &counts[..n])
 }
 
 // All rows one after the other, up to a zero pivot.

@@ -112,13 +112,16 @@ fn climb(start: usize, k: usize, etree: &[u32], marks: &mut [u8], order: &mut [u
     len
 }
 
-// Moves the first len of order to right before top, and answers where they begin.
+// Moves the first len of order to right before top, and answers where they begin. A loop: `copy_within` is memmove, which the archives call
+// nowhere.
 fn push(len: usize, top: usize, order: &mut [u32]) -> usize
     requires { (len ≤ top) × (top ≤ length order.old) }
     ensures { Pushed len top order.old order.new result }
 {
     let to = top - len;
-    order.copy_within(..len, to);
+    for i in (0..len).rev() {
+        order[to + i] = order[i];
+    }
     to
 }
 

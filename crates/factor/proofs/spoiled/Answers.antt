@@ -1,13 +1,11 @@
 -- `factor::spoiled` meets its contract: the four tests in the order of the definition, the last two against the tree that is struck out in
 -- scratch. Assumes nothing.
 use Prim.Native.Nat.{ℕ}
-use mathlib.Core.Path.{◌≡◌, sym, ◌∙◌}
+use mathlib.Core.Path.{◌≡◌, sym, ap, ◌∙◌}
 use mathlib.Core.Bool.{Bool, true, false, not}
 use mathlib.Core.List.{List}
 use borrow.Author.Rules.{rules}
 use lib.ListN.{length, take}
-use Rattle.std.specs.Prelude.{nat_eq}
-use Rattle.std.specs.Cmp.Lexicographic.{pointwise}
 use Rattle.desk.proofs.Over.{take-written}
 use Rattle.csc.specs.Csc.{Csc, bad_pointers, not_upper}
 use Rattle.tree.specs.Strike.{parents}
@@ -15,7 +13,6 @@ use Rattle.tree.specs.Tree.{Treed}
 use Rattle.tree.proofs.Later.{length-parents, length-counts}
 use Rattle.factor.specs.Factor.{same, spoiled_factor}
 use Rattle.factor.proofs.Runs.{graph}
-use Rattle.factor.proofs.Tested.{same-pointwise}
 use Rattle.factor.proofs.spoiled.Goals as goal
 use Rattle.factor.proofs.spoiled.Goals.{Else-bad_pointers, Else-not_upper_triangular, then-bad_pointers-via-then-bad_pointers, then-bad_pointers-via-else-bad_pointers+then-not_upper_triangular}
 
@@ -29,19 +26,19 @@ module _ (n m : ℕ) (A : Csc) (etree lnz : List ℕ) where
     unfolding spoiled_factor
     by_rows e = rw (sound, e)
 
-    -- t is whether the parents are others than those of the tree
-    module _ (above : not_upper n A.colptr A.rowval ≡ false) {l₀ l p₀ p : List ℕ} (S : Treed n A.colptr A.rowval l₀ l p₀ p) {t : Bool} (asked : t ≡ not (pointwise nat_eq etree (take n p))) where
-      parents_asked : t ≡ not (same etree (parents n (graph A)))
-      parents_asked = rw (same-pointwise etree (take n p), take-written n _ _ _ S.struck_parents (length-parents (graph A) n)) at asked
+    -- t is whether the parents are those of the tree
+    module _ (above : not_upper n A.colptr A.rowval ≡ false) {l₀ l p₀ p : List ℕ} (S : Treed n A.colptr A.rowval l₀ l p₀ p) {t : Bool} (asked : t ≡ same etree (take n p)) where
+      parents_asked : t ≡ same etree (parents n (graph A))
+      parents_asked = rw (take-written n _ _ _ S.struck_parents (length-parents (graph A) n)) at asked
 
-      by-parents : t ≡ true → t ≡ spoiled_factor n m A etree lnz
+      by-parents : t ≡ false → not t ≡ spoiled_factor n m A etree lnz
       unfolding spoiled_factor
       by-parents e = rw (sound, above, ← parents_asked, e)
 
-      by-counts : t ≡ false → {u : Bool} → u ≡ not (pointwise nat_eq lnz (take n l)) → u ≡ spoiled_factor n m A etree lnz
+      by-counts : t ≡ true → {u : Bool} → u ≡ same lnz (take n l) → not u ≡ spoiled_factor n m A etree lnz
       unfolding spoiled_factor
       by-counts e h =
-          rw (sound, above, ← parents_asked, e) (rw (same-pointwise lnz (take n l), take-written n _ _ _ S.struck_counts (length-counts (graph A) n)) at h)
+          rw (sound, above, ← parents_asked, e) (ap not (rw (take-written n _ _ _ S.struck_counts (length-counts (graph A) n)) at h))
 
 steady : (c : Else-bad_pointers) → bad_pointers (length c.args.a.now.rowval.now) c.args.a.now.colptr.now ≡ false
 steady c = sym c.bad_pointers.ensures ∙ c.if-bad_pointers.false
@@ -61,10 +58,10 @@ pub etree-requires : goal.etree-requires
 etree-requires c =
     search (rules, steady (goal.at.etree-requires c).Else-bad_pointers, upper (goal.at.etree-requires c).Else-not_upper_triangular)
 
-pub returns-then-ne : goal.returns-then-ne
-returns-then-ne c =
-    by-parents _ _ _ _ _ (steady (goal.at.returns-then-ne c).Else-bad_pointers) (upper (goal.at.returns-then-ne c).Else-not_upper_triangular) c.etree.ensures c.ne.ensures c.if-ne.true
+pub returns-then-not-same : goal.returns-then-not-same
+returns-then-not-same c =
+    by-parents _ _ _ _ _ (steady (goal.at.returns-then-not-same c).Else-bad_pointers) (upper (goal.at.returns-then-not-same c).Else-not_upper_triangular) c.etree.ensures c.same.ensures c.if-not-same.true
 
-pub returns-else-ne : goal.returns-else-ne
-returns-else-ne c =
-    by-counts _ _ _ _ _ (steady (goal.at.returns-else-ne c).Else-bad_pointers) (upper (goal.at.returns-else-ne c).Else-not_upper_triangular) c.etree.ensures c.ne.ensures c.if-ne.false c.ne-else-ne.ensures
+pub returns-else-not-same : goal.returns-else-not-same
+returns-else-not-same c =
+    by-counts _ _ _ _ _ (steady (goal.at.returns-else-not-same c).Else-bad_pointers) (upper (goal.at.returns-else-not-same c).Else-not_upper_triangular) c.etree.ensures c.same.ensures c.if-not-same.false c.same-else-not-same.ensures
