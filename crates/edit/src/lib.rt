@@ -38,9 +38,9 @@ pub fn update_values(map: &[u32], indices: &[u32], values: &[f64], vals: &mut [f
     requires values_len { length values.now ≡ length indices.now }
     ensures { vals.new ≡ updated map.now indices.now values.now vals.old }
 {
-    for (index, value) in indices.iter().zip(values) {
+    for (j, index) in indices.iter().enumerate() {
         let p = place(map, *index);
-        vals[p] = *value;
+        vals[p] = values[j];
     }
 }
 
@@ -61,8 +61,8 @@ pub fn offset_values(map: &[u32], indices: &[u32], offset: f64, signs: &[i8], va
     requires signs_len { length signs.now ≡ length indices.now }
     ensures { vals.new ≡ offsetted map.now indices.now offset signs.now vals.old }
 {
-    for (index, sign) in indices.iter().zip(signs) {
+    for (j, index) in indices.iter().enumerate() {
         let p = place(map, *index);
-        vals[p] = offset_by(offset, *sign, vals[p]);
+        vals[p] = offset_by(offset, signs[j], vals[p]);
     }
 }
