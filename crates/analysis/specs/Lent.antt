@@ -2,11 +2,16 @@
 use Rattle.std.specs.Prelude.{◌≡◌}
 use Rattle.csc.specs.Csc.{matrix}
 use Rattle.analysis.specs.declared.Tables.{Tables}
+use Rattle.analysis.specs.declared.TablesRef.{TablesRef}
 use Rattle.analysis.specs.Analysis.{Written, written}
 
 -- "Analysis writes the permuted pointers, rows and values, the map, parents, counts, and the signs in the new order": what they hold
 abbrev pub tables_of : Tables → Written
 tables_of t = written (matrix t.pc.now t.pr.now t.pv.now) t.map.now t.etree.now t.lnz.now t.dsigns.now
+
+-- the same of tables that are only read
+abbrev pub read_of : TablesRef → Written
+read_of t = written (matrix t.pc.now t.pr.now t.pv.now) t.map.now t.etree.now t.lnz.now t.dsigns.now
 
 -- each list is still the one that was lent
 abbrev pub SameTables : Tables → Tables → Type 0

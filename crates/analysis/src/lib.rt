@@ -4,7 +4,7 @@
 ghost use Rattle.std.specs.Prelude.{◌≡◌, [], ◌∷◌, ◌≤◌, pos, length, replicate};
 ghost use Rattle.desk.specs.Lists.{over};
 ghost use Rattle.csc.specs.Csc.{matrix, lent};
-ghost use Rattle.analysis.specs.Lent.{tables_of};
+ghost use Rattle.analysis.specs.Lent.{tables_of, read_of};
 ghost use Rattle.analysis.specs.Analysis.{written, analysis_lent, bad_lengths, new_signs};
 ghost use Rattle.analysis.specs.Steps.{Judged, SignsFit, Computable, Computed};
 
@@ -23,19 +23,48 @@ pub struct Tables<'a> {
     pub dsigns: &'a mut [i8],
 }
 
+// The same, only read.
+#[derive(Clone, Copy, Debug)]
+pub struct TablesRef<'a> {
+    pub pc: &'a [u32],
+    pub pr: &'a [u32],
+    pub pv: &'a [f64],
+    pub map: &'a [u32],
+    pub etree: &'a [u32],
+    pub lnz: &'a [u32],
+    pub dsigns: &'a [i8],
+}
+
+impl Tables<'_> {
+    // The tables to be read.
+    pub fn read(&self) -> TablesRef<'_>
+        ensures { read_of result ≡ tables_of self.now }
+    {
+        TablesRef {
+            pc: &self.pc[..],
+            pr: &self.pr[..],
+            pv: &self.pv[..],
+            map: &self.map[..],
+            etree: &self.etree[..],
+            lnz: &self.lnz[..],
+            dsigns: &self.dsigns[..],
+        }
+    }
+}
+
 // Refusal 4, BadLength, in the analysis.
 fn bad_lengths(
     n: usize,
     a: &CscMatrix<'_>,
     perm: &[u32],
     signs: &[i8],
-    out: &Tables<'_>,
+    out: &TablesRef<'_>,
     iperm: &[u32],
     next: &[u32],
     work: &[u32],
 ) -> bool
     requires { n ≤ 2048 }
-    ensures { result ≡ bad_lengths (analysis_lent 0 n (lent a.now) perm.now signs.now (tables_of out.now) (iperm.now ∷ next.now ∷ work.now ∷ [])) }
+    ensures { result ≡ bad_lengths (analysis_lent 0 n (lent a.now) perm.now signs.now (read_of out.now) (iperm.now ∷ next.now ∷ work.now ∷ [])) }
 {
     let m = a.rowval.len();
     (a.colptr.len() != n + 1)
@@ -61,12 +90,12 @@ pub fn judge(
     a: &CscMatrix<'_>,
     perm: &[u32],
     signs: &[i8],
-    out: &Tables<'_>,
+    out: &TablesRef<'_>,
     iperm: &mut [u32],
     next: &[u32],
     work: &[u32],
 ) -> Result<(), Refusal>
-    ensures { Judged (analysis_lent nrows n (lent a.now) perm.now signs.now (tables_of out.now) (iperm.old ∷ next.now ∷ work.now ∷ [])) result iperm.old iperm.new }
+    ensures { Judged (analysis_lent nrows n (lent a.now) perm.now signs.now (read_of out.now) (iperm.old ∷ next.now ∷ work.now ∷ [])) result iperm.old iperm.new }
 {
     if nrows != n {
         return Err(Refusal::IncompatibleDimension);

@@ -128,7 +128,7 @@ impl Status {
             a,
             perm,
             signs,
-            out,
+            &out.read(),
             &mut *iperm,
             &next[..],
             &work[..],

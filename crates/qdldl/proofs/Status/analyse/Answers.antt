@@ -24,7 +24,7 @@ judged : (c : In_ok-map_err) → ◌≡◌ {A = Verdict} (Ok tt) c.judge.result
 judged c = ok_alike _ _ _ c.in_ok-map_err.was c.map_err.ensures.variant
 
 accepted : (c : In_ok-map_err) → Ok tt ≡ first (analysis_refusals (L c))
-accepted c = judged c ∙ c.judge.ensures.verdict
+accepted c = judged c ∙ rw c.read.ensures at c.judge.ensures.verdict
 
 pub slice_bounds-inverse-end : goal.slice_bounds-inverse-end
 slice_bounds-inverse-end c =
