@@ -141,6 +141,8 @@ fn permuted_signs(perm: &[u32], signs: &[i8], dsigns: &mut [i8])
 
 // Writes the tables of an accepted analysis, and answers the length of L. iperm is the inverse ordering; next and work are scratch.
 // The tables come one by one, since the triangle among them is read while others are written, which the borrow checker covers only so.
+// Not inlined: in one function with the tests, the walk up the tree has too few registers.
+#[inline(never)]
 pub fn compute(
     a: &CscMatrix<'_>,
     perm: &[u32],

@@ -150,7 +150,8 @@ pub fn accumulate(counts: &[u32], n: usize, colptr: &mut [u32])
     }
 }
 
-// Copies the first n pointers: each column's next free place is its first. A loop: `copy_from_slice` is memmove, which the archives call nowhere.
+// Copies the first n pointers: each column's next free place is its first. A loop: `copy_from_slice` is memmove, which the archives call
+// nowhere.
 pub fn copy_starts(colptr: &[u32], n: usize, next: &mut [u32])
     requires n_in_bounds { n ≤ length colptr.now }
     requires n_in_bounds_2 { n ≤ length next.old }

@@ -38,9 +38,9 @@ fn gather(rows: &[u32], vals: &[f64], x: &[f64]) -> f64
     ensures { result ≡ summed rows.now vals.now x.now +0 }
 {
     let mut s: f64 = 0.0;
-    for (row, l) in rows.iter().zip(vals) {
+    for (j, row) in rows.iter().enumerate() {
         let r = wide(*row);
-        s += *l * x[r];
+        s += vals[j] * x[r];
     }
     s
 }
